@@ -1,0 +1,4 @@
+pub mod Runs
+pub mod History
+pub mod Limits
+pub mod Laws

@@ -1,0 +1,8 @@
+pub mod Lines
+pub mod Rises
+pub mod Months
+pub mod Events
+pub mod Strikes
+pub mod Scans
+pub mod WhatIfs
+pub mod Codec

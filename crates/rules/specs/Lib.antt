@@ -1,0 +1,4 @@
+pub mod Answers
+pub mod Calendar
+pub mod Kinds
+pub mod Sums

@@ -1,0 +1,4 @@
+pub mod Finds
+pub mod Readings
+pub mod Postings
+pub mod Renewals

@@ -1,0 +1,14 @@
+pub mod Registers
+pub mod Book
+pub mod Checks
+pub mod Enrolling
+pub mod Posting
+pub mod Objecting
+pub mod Asking
+pub mod Settling
+pub mod Lent
+pub mod Finding
+pub mod Beginning
+pub mod Admitting
+pub mod Objections
+pub mod Sheets

@@ -1,0 +1,34 @@
+// The two states of a month: plain numbers, which can be neither copied nor let go.
+ghost use Prim.Native.Nat.{_≤_};
+
+mod admitting;
+mod answering;
+mod asking;
+mod beginning;
+mod enrolling;
+mod objecting;
+mod paying;
+mod posting;
+mod reading;
+mod renewing;
+mod settling;
+mod standing;
+mod what_if;
+
+// What both states have: the month's count, how many words of the journal are used, and the commissioning fund.
+struct Month {
+    count: u32,
+    used: usize,
+    fund: u64,
+    ghost limits: { (24_000 ≤ count) × (count ≤ 25_199) × (used ≤ 1_048_576) × (fund ≤ 40_000_000_000) },
+}
+
+// A month that parties, readings, events and money are entered in.
+pub struct OpenMonth {
+    month: Month,
+}
+
+// A month that objections are heard in, until it is settled.
+pub struct PublishedMonth {
+    month: Month,
+}
