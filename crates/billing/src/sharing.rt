@@ -8,11 +8,11 @@ ghost use Rattle.std.specs.Options.{Cases};
 ghost use Rattle.std.specs.Vec.{made};
 ghost use Rattle.std.specs.declared.option.Option.the-variants.{Some, None};
 ghost use Rattle.billing.specs.Giving.{too-heavy, Share-out};
-ghost use Rattle.billing.specs.Sharing.{part, step, total, shares-from, Fair};
+ghost use Rattle.billing.specs.Sharing.{part, step, total, shares-from, shares, Fair};
+use crate::sums::MOST_SUM;
 use rules::refusal::Refusal;
 
-const MOST_POOL: u64 = 40_000_000_000;
-
+// What one party may weigh: 4,000,000 kW through a month of 8,928 slots.
 const MOST_WEIGHT: u32 = 2_976_000;
 
 const MOST_PARTIES: usize = 64;
@@ -93,7 +93,7 @@ pub fn share_out(pool: u64, weights: &[u32], shares: &mut [u64]) -> Result<(), R
     ensures shares { λ r. ⌜ Share-out pool (now (weights .entry)) (now (shares .entry)) r (now (shares .exit)) ⌝ }
     ensures fair { λ r. ⌜ made r (λ _. Fair pool (now (weights .entry)) (now (shares .exit))) ⌝ }
 {
-    if pool > MOST_POOL || weights.len() != shares.len() || shares.len() > MOST_PARTIES {
+    if pool > MOST_SUM || weights.len() != shares.len() || shares.len() > MOST_PARTIES {
         return Err(Refusal::OutOfRange);
     }
     let Some(whole) = whole_weight(weights) else {
@@ -108,9 +108,10 @@ pub fn share_out(pool: u64, weights: &[u32], shares: &mut [u64]) -> Result<(), R
 
 // 100 fen over three equal weights: the odd fen falls to the last.
 pub fn hundred_in_three() -> [u64; 3]
-    ensures { λ r. ⌜ r ≡ 33 ∷ 33 ∷ 34 ∷ [] ⌝ }
+    ensures shares { λ r. ⌜ r ≡ shares 100 (1 ∷ 1 ∷ 1 ∷ []) ⌝ }
+    ensures figures { λ r. ⌜ r ≡ 33 ∷ 33 ∷ 34 ∷ [] ⌝ }
 {
-    let mut shares = [0; 3];
-    let _ = share_out(100, &[1, 1, 1], &mut shares);
-    shares
+    let mut thirds = [0; 3];
+    let _ = share_out(100, &[1, 1, 1], &mut thirds);
+    thirds
 }

@@ -46,7 +46,8 @@ use Rattle.settlement.specs.Posting.{asked, answer-to}
 use Rattle.book.specs.Runs.{Entry, Enrol, Post, PayIn, WhatIf, AccountSums, Settle, Trace, Step, new, not-new, enrol, read, post, pay-in, account-sums, publish, object, answer, what-if, account-sums-then, settle, Run, start, next}
 use Rattle.book.specs.History.{Placed, News, news, enrolled-as, month-with, enrolments-with, readings-with, standing-with, journal-with, money-with, bills-by, paid-in-with, month, enrolments, readings, without, standing, paid-in, money, bills, journal, worth-of, magnitude, running-slots, passed}
 use Rattle.book.specs.Limits.{Book-fits, State-fits}
-use Rattle.book.specs.Laws.{Within-limits, sums-of, weights, Rest, Fund-pays, net-due, Lawful-settling, Lawful-posting, Lawful-sums, Lawful-what-if, Lawful, Every-run-within-limits, Every-run-lawful, Every-call-carries}
+use Rattle.book.specs.Laws.{Within-limits, sums-of, weights, Rest, Fund-pays, net-due, Lawful-settling, Lawful-posting, Lawful-sums, Lawful-what-if, Lawful, Runs-within-limits, Runs-lawful}
+use Rattle.book.specs.Serving.{Steps}
 use Rattle.book.proofs.Rosters.{sorted, rising-drawn, shuffled-sorted, found-drawn}
 use Rattle.book.proofs.Limiting.{sums-each, lines-fit}
 use Rattle.book.proofs.Fitting.{Held, held-new, held-enrol, held-read, held-post, held-pay-in, held-object, held-dismiss, held-uphold, held-settle}
@@ -429,10 +430,10 @@ written means t no-book f = sym (f .3)
 written means t (in-month b) f = f .words-are
 written means t (published b) f = f .words-are
 
-pub every-run-within-limits : Every-run-within-limits
+pub every-run-within-limits : (means : Rulebook) → Within-limits means → Runs-within-limits means
 every-run-within-limits means limits t s run = state-fits means t s (fine run) (held run)
 
-pub every-run-lawful : Every-run-lawful
+pub every-run-lawful : (means : Rulebook) → Within-limits means → Runs-lawful means
 every-run-lawful means limits t s run =
     let at : (later rest : Trace) → t ≡ later ++ rest → (s′ : State) × Run means rest s′ = λ later rest e. reach later rest (subst (λ u. Run means u s) e run) in
     record {
@@ -446,9 +447,14 @@ every-run-lawful means limits t s run =
       what-ifs = λ later earlier place r e. last-what-if (at later _ e .1);
     }
 
--- a call that is a step carries every run on
-pub every-call-carries : Every-call-carries
-every-call-carries means limits room before after e step = record {
-  run = λ t run. next run step;
-  lawful = λ t run. every-run-lawful means limits (e ∷ t) after (next run step);
-}
+-- steps carry every run on
+pub carry : (means : Rulebook) (room : Room) (before after : State) (added : List Entry) → Steps means room before added after → (t : Trace) → Run means t before → Run means (added ++ t) after
+carry means room before after [] same t run = subst (Run means t) (sym same) run
+carry means room before after (e ∷ es) s t run = next (carry means room before (s .0) es (s .1) t run) (s .2)
+
+-- before there is a book, nothing depends on the rulebook
+pub any-rulebook : {means : Rulebook} {t : Trace} (others : Rulebook) → Run means t no-book → Run others t no-book
+any-rulebook others start = start
+any-rulebook others (next {room = room} run (not-new e)) = next {room = room} (any-rulebook others run) (not-new e)
+any-rulebook others (next run (settle {r = Ok _} step)) = absurd step
+any-rulebook others (next run (settle {r = Err _} step)) = absurd step

@@ -8,3 +8,4 @@ pub mod Scanning
 pub mod Keeping
 pub mod Fitting
 pub mod Lawful
+pub mod Heard

@@ -16,7 +16,7 @@ use Rattle.records.specs.declared.enrolment.Enrolment.{Enrolment}
 use Rattle.settlement.specs.Registers.{by-number}
 use Rattle.records.specs.declared.event.Event.{Event}
 use Rattle.records.specs.Asking.{facts}
-use Rattle.settlement.specs.Book.{State, fund-in, words-in, Room}
+use Rattle.settlement.specs.Book.{State, fund-in, words-in}
 use Rattle.book.specs.Limits.{State-fits}
 use Rattle.billing.specs.Sharing.{Fair}
 use Rattle.billing.specs.Weights.{Weights, weights-of}
@@ -24,7 +24,7 @@ use Rattle.billing.specs.declared.bill.Bill.{Bill}
 use Rattle.settlement.specs.Settling.{Reckoning}
 use Rattle.billing.specs.Bills.{pay-of, net-sum}
 use Rattle.settlement.specs.declared.posted.Posted.{Posted}
-use Rattle.book.specs.Runs.{Entry, Post, PayIn, WhatIf, AccountSums, Settle, Trace, Step, Run}
+use Rattle.book.specs.Runs.{Post, PayIn, WhatIf, AccountSums, Settle, Trace, Run}
 use Rattle.book.specs.History.{month, enrolments, readings, without, standing, paid-in, money, bills, journal, Placed, worth-of, magnitude, running-slots}
 
 -- The law of a rule: no amount passes the ceiling.
@@ -118,20 +118,11 @@ pub record Lawful (means : Rulebook) (t : Trace) (s : State) : Type 0 where
   pub account-sums : (later earlier : Trace) (n : ℕ) (r : List ℕ) → t ≡ later ++ (AccountSums n (Ok r) ∷ earlier) → Lawful-sums means earlier n (standing earlier) r
   pub what-ifs : (later earlier : Trace) (place : ℕ) (r : List ℕ) → t ≡ later ++ (WhatIf place (Ok r) ∷ earlier) → Lawful-what-if means earlier place r
 
--- The limits of every figure of the book hold after every run.
-abbrev pub Every-run-within-limits : Type 0
-Every-run-within-limits = (means : Rulebook) → Within-limits means → (t : Trace) (s : State) → Run means t s → State-fits s
+-- The law of the book under a rulebook: every run is lawful.
+abbrev pub Runs-lawful : Rulebook → Type 0
+Runs-lawful means = (t : Trace) (s : State) → Run means t s → Lawful means t s
 
--- The law of the book.
-abbrev pub Every-run-lawful : Type 0
-Every-run-lawful = (means : Rulebook) → Within-limits means → (t : Trace) (s : State) → Run means t s → Lawful means t s
+-- Every run keeps every figure of the book within its limits.
+abbrev pub Runs-within-limits : Rulebook → Type 0
+Runs-within-limits means = (t : Trace) (s : State) → Run means t s → State-fits s
 
--- Whatever run led to the state before, the call with its answer makes it a longer run to the state after, and a lawful one.
-pub record Carried (means : Rulebook) (before : State) (e : Entry) (after : State) : Type 0 where
-  pub run : (t : Trace) → Run means t before → Run means (e ∷ t) after
-  pub lawful : (t : Trace) → Run means t before → Lawful means (e ∷ t) after
-
--- Every call carries every run on.
-abbrev pub Every-call-carries : Type 0
-Every-call-carries =
-    (means : Rulebook) → Within-limits means → (room : Room) (before after : State) (e : Entry) → Step means room before e after → Carried means before e after

@@ -2,3 +2,5 @@ pub mod Runs
 pub mod History
 pub mod Limits
 pub mod Laws
+pub mod Entries
+pub mod Serving

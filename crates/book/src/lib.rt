@@ -1,9 +1,7 @@
-// The law that every run of the book keeps.
-ghost use Rattle.book.specs.Laws.{Every-run-lawful};
-
-// Whatever the rulebook means within its limits, every run of the book is lawful.
-pub fn laws_hold() -> u8
-    ensures { λ _. ⌜ Every-run-lawful ⌝ }
-{
-    0
-}
+// The book as a whole: any call in any state, and the law that every run keeps.
+pub mod answer;
+pub mod call;
+pub mod laws;
+pub mod playing;
+pub mod serving;
+pub mod stage;

@@ -45,13 +45,13 @@ module _ {R : Type 0} (number : R → ℕ) where
   rising-inserted y j [] rising none = (tt, tt)
   rising-inserted y j (x ∷ xs) rising none = ⊎-elim
       (λ (e : ltb (number y) (number x) ≡ true).
-        let less : number y < number x = ltb-true _ _ e in
-        subst (λ k. Rising number (inserted (x ∷ xs) k y)) (sym (cond-true _ _ _ e))
-          ((less, above-lower (number y) (number x) xs (omega arith) (rising .0)), rising))
+      let less : number y < number x = ltb-true _ _ e in
+      subst (λ k. Rising number (inserted (x ∷ xs) k y)) (sym (cond-true _ _ _ e))
+      ((less, above-lower (number y) (number x) xs (omega arith) (rising .0)), rising))
       (λ (e : ltb (number y) (number x) ≡ false).
-        let more : number x < number y = omega (arith, ltb-false _ _ e, other (number y) j x xs none) in
-        subst (λ k. Rising number (inserted (x ∷ xs) k y)) (sym (cond-false _ _ _ e ∙ place-next (number y) 0 xs))
-          (above-inserted (number x) (place-from number (number y) 0 xs) y xs more (rising .0), rising-inserted y (j + 1) xs (rising .1) (absent-next (number y) j x xs none)))
+      let more : number x < number y = omega (arith, ltb-false _ _ e, other (number y) j x xs none) in
+      subst (λ k. Rising number (inserted (x ∷ xs) k y)) (sym (cond-false _ _ _ e ∙ place-next (number y) 0 xs))
+      (above-inserted (number x) (place-from number (number y) 0 xs) y xs more (rising .0), rising-inserted y (j + 1) xs (rising .1) (absent-next (number y) j x xs none)))
       (cases-bool (ltb (number y) (number x)))
 
   above-removed : (m i : ℕ) (xs : List R) → Above number m xs → Above number m (removed xs i)

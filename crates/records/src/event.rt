@@ -9,10 +9,15 @@ ghost use Rattle.records.specs.Words.{kind, content, word, shifted, quantity, 
 
 // The kinds of word: an event that stands or was struck, an event's two quantities, money paid in, a month's end.
 pub const STANDING: u32 = 1;
+
 pub const STRUCK: u32 = 2;
+
 pub const FIRST: u32 = 3;
+
 pub const SECOND: u32 = 4;
+
 pub const PAID_IN: u32 = 5;
+
 pub const MONTH_END: u32 = 6;
 
 #[derive(Clone, Copy)]
@@ -54,7 +59,10 @@ impl Event {
             return None;
         }
         Some([
-            word(STANDING, self.party * 524_288 + self.service * 16_384 + self.slot),
+            word(
+                STANDING,
+                self.party * 524_288 + self.service * 16_384 + self.slot,
+            ),
             word(FIRST, shifted(self.x)),
             word(SECOND, shifted(self.y)),
         ])

@@ -1,4 +1,4 @@
-// The used words of the journal, whatever they hold.
+// The used words of the journal, whatever they hold. A month is looked at from its end, where the used words end.
 ghost use mathlib.Core.Path.{_≡_};
 ghost use Prim.Native.Nat.{ℕ, _≤_};
 ghost use lib.ListN.{length, take};
@@ -23,10 +23,14 @@ pub fn used_words(words: &[u32], used: usize) -> &[u32]
     ensures words { λ r. ⌜ now r ≡ take used (now (words .entry)) ⌝ }
     ensures few { λ r. ⌜ length (now r) ≤ used ⌝ }
 {
-    if used < words.len() { &words[0..used] } else { words }
+    if used < words.len() {
+        &words[0..used]
+    } else {
+        words
+    }
 }
 
-// The place after the last month's end.
+// The place after the last month's end, or 0.
 pub fn month_start(words: &[u32]) -> usize
     ensures start { λ r. ⌜ r ≡ month-start (now (words .entry)) ⌝ }
     ensures within { λ r. ⌜ r ≤ length (now (words .entry)) ⌝ }
@@ -73,7 +77,7 @@ pub fn posted_already(words: &[u32], event: &Event) -> bool
     false
 }
 
-// Writes new words after the used ones, where they fit, and says whether they did.
+// Writes new words, of an event, a pay-in or a month's end, after the used ones where they fit, and says whether they did.
 pub fn append(words: &mut [u32], used: usize, new: &[u32]) -> bool
     ensures { λ r. ⌜ Appending used (now (new .entry)) (now (words .entry)) r (now (words .exit)) ⌝ }
 {

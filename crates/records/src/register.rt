@@ -9,7 +9,9 @@ ghost use Rattle.std.specs.Finite.{nth};
 ghost use Rattle.std.specs.Slices.{found};
 ghost use Rattle.records.specs.Numbered.{first-at, place-at, without, Rising, Only};
 ghost use Rattle.records.specs.Held.{count, held, Insertion, Rises, Stays-rising, Laid-by, Kept};
+
 mod search;
+
 use search::find_in;
 use search::place_in;
 
@@ -32,6 +34,7 @@ pub struct Register<'a, R: Keyed, const LIMIT: usize> {
 pub struct Full;
 
 impl<'a, R: Keyed + Copy, const LIMIT: usize> Register<'a, R, LIMIT> {
+    // A register over lent lines, of which the first are in use.
     pub fn over(lines: &'a mut [R], used: usize) -> Self
         ensures used { λ r. ⌜ r .used ≡ used ⌝ }
         ensures lines { λ r. ⌜ now (r .lines) ≡ now (lines .entry) ⌝ }
@@ -68,11 +71,16 @@ impl<'a, R: Keyed + Copy, const LIMIT: usize> Register<'a, R, LIMIT> {
         find_in(self.held(), number)
     }
 
+    // The line at i.
     pub fn get(&self, i: usize) -> Option<R>
         ensures { λ r. ⌜ r ≡ nth (held (now (self .entry))) i ⌝ }
     {
         let lines = self.held();
-        if i < lines.len() { Some(lines[i]) } else { None }
+        if i < lines.len() {
+            Some(lines[i])
+        } else {
+            None
+        }
     }
 
     // Where the first line with a larger number stands.
@@ -100,7 +108,7 @@ impl<'a, R: Keyed + Copy, const LIMIT: usize> Register<'a, R, LIMIT> {
         Ok(i)
     }
 
-    // Takes the line out; where there is none, nothing changes.
+    // Takes the line out, and lays it right past the lines in use; where there is none, nothing changes.
     pub fn remove(&mut self, i: usize)
         ensures holds { λ _. ⌜ held (now (self .exit)) ≡ without (held (now (self .entry))) i ⌝ }
         ensures rises { λ _. ⌜ Stays-rising (R·Keyed .number) (now (self .entry)) (now (self .exit)) ⌝ }
@@ -125,6 +133,7 @@ impl<'a, R: Keyed + Copy, const LIMIT: usize> Register<'a, R, LIMIT> {
         }
     }
 
+    // Takes all lines out of use; what they hold stays in the memory.
     pub fn clear(&mut self)
         ensures holds { λ _. ⌜ held (now (self .exit)) ≡ [] ⌝ }
         ensures rises { λ _. ⌜ Stays-rising (R·Keyed .number) (now (self .entry)) (now (self .exit)) ⌝ }

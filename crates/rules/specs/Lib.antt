@@ -1,4 +1,11 @@
 pub mod Answers
 pub mod Calendar
+pub mod Division
+pub mod Figures
 pub mod Kinds
+pub mod Layers
+pub mod Ranges
+pub mod Refusals
+pub mod Rulebooks
+pub mod Services
 pub mod Sums

@@ -1,4 +1,4 @@
-// The two states of a month: plain numbers, which can be neither copied nor let go.
+// The two states of a month: plain numbers, which no one else makes and no one copies.
 ghost use Prim.Native.Nat.{_≤_};
 
 mod admitting;
@@ -16,6 +16,7 @@ mod standing;
 mod what_if;
 
 // What both states have: the month's count, how many words of the journal are used, and the commissioning fund.
+#[derive(Drop)]
 struct Month {
     count: u32,
     used: usize,
@@ -24,11 +25,13 @@ struct Month {
 }
 
 // A month that parties, readings, events and money are entered in.
+#[derive(Drop)]
 pub struct OpenMonth {
     month: Month,
 }
 
 // A month that objections are heard in, until it is settled.
+#[derive(Drop)]
 pub struct PublishedMonth {
     month: Month,
 }

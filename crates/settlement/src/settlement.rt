@@ -11,6 +11,7 @@ pub struct Tally {
 }
 
 // The published month is given up for the following open one, or comes back with the refusal.
+#[derive(Drop)]
 pub enum Settlement {
     Settled(OpenMonth, Tally),
     Kept(PublishedMonth, Refusal),

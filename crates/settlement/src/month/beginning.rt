@@ -37,35 +37,4 @@ impl OpenMonth {
         let OpenMonth { month } = self;
         PublishedMonth { month }
     }
-
-    // Ends the book, and answers the money left in it.
-    pub fn close(self) -> u64
-        ensures { λ r. ⌜ r ≡ self .month .fund ⌝ }
-    {
-        let OpenMonth { month } = self;
-        month.end()
-    }
-}
-
-impl PublishedMonth {
-    // Ends the book, and answers the money left in it.
-    pub fn close(self) -> u64
-        ensures { λ r. ⌜ r ≡ self .month .fund ⌝ }
-    {
-        let PublishedMonth { month } = self;
-        month.end()
-    }
-}
-
-impl Month {
-    fn end(self) -> u64
-        ensures { λ r. ⌜ r ≡ self .fund ⌝ }
-    {
-        let Month {
-            count: _,
-            used: _,
-            fund,
-        } = self;
-        fund
-    }
 }

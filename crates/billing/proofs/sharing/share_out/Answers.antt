@@ -32,7 +32,7 @@ returns c =
       | else-pool-gt0·by·then-pool-gt0·else-whole-eq0 v ↦ and-right _ _ (ne-eqb (total ws) 0 (λ z. v .if-whole-eq0 .left (w .1 ∙ z)))
       | else-pool-gt0·by·else-pool-gt0 v ↦ and-left _ _ (le-ltb 0 pool (v .if-pool-gt0 .left))
     ] in
-    let r = or-from _ _ (le-ltb 40_000_000_000 pool (c .if-pool-gt-MOST-POOL .left))
+    let r = or-from _ _ (le-ltb 40_000_000_000 pool (c .if-pool-gt-MOST-SUM .left))
     (or-from _ _ (not-from-true _ (eq-eqb (length ws) (length ss) (c .if-weights-shares .left)))
     (or-from _ _ (le-ltb 64 (length ss) (c .if-shares-gt-MOST-PARTIES .left)) (w .0))) in
     let o = c .over .ensures in

@@ -15,10 +15,10 @@ pub returns-then-place-month-start : need.returns-then-place-month-start
 returns-then-place-month-start c =
     let ws = c .args .words .now in
     elim (c .then-place-month-start .came) [
-      then-place-month-start·by·then-place-month-start w ↦ grind (arith, tells)
-    | then-place-month-start·by·else-place-month-start·then-place-words w ↦
-        let none : kind (getD ws (c .args .place) 0) ≡ 0 = ap kind (getD-past ws (c .args .place) 0 (w .if-place-words .taken)) in
-        grind (arith, tells)
+      | then-place-month-start·by·then-place-month-start w ↦ grind (arith, tells)
+      | then-place-month-start·by·else-place-month-start·then-place-words w ↦
+          let none : kind (getD ws (c .args .place) 0) ≡ 0 = ap kind (getD-past ws (c .args .place) 0 (w .if-place-words .taken)) in
+          grind (arith, tells)
     ]
 
 pub returns : need.returns

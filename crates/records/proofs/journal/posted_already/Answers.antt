@@ -35,9 +35,9 @@ pub loop-i-again : need.loop-i-again
 loop-i-again c =
     let e = c .args .event .now in
     let ws = c .args .words .now in
-    let n = c .loop-i .i in
-    ( none-more ws (n - 1) n (omega arith) (omega arith) (λ k. c .if-kind-eq-MONTH-END .left (c .kind .ensures ∙ k)) (c .loop-i .inv .0)
-    , posted-next ws (n - 1) n (omega arith) (omega arith) e ∙ or-from _ _ (sym (c .is-post .ensures) ∙ c .if-is-post .left) (c .loop-i .inv .1)
+    let n = c .loop-i .i in (
+      none-more ws (n - 1) n (omega arith) (omega arith) (λ k. c .if-kind-eq-MONTH-END .left (c .kind .ensures ∙ k)) (c .loop-i .inv .0),
+      posted-next ws (n - 1) n (omega arith) (omega arith) e ∙ or-from _ _ (sym (c .is-post .ensures) ∙ c .if-is-post .left) (c .loop-i .inv .1),
     )
 
 pub returns : need.returns

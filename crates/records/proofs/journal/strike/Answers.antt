@@ -21,5 +21,5 @@ pub returns-else-place-used : need.returns-else-place-used
 returns-else-place-used c =
     let ws = c .args .words .now in
     let past : length (take (c .args .used) ws) ≤ c .args .place =
-        ⊎-elim (λ b. simp length-take (omega (arith, b .1))) (λ b. simp length-take (omega (arith, b))) (c .else-place-used .either) in
+    ⊎-elim (λ b. simp length-take (omega (arith, b .1))) (λ b. simp length-take (omega (arith, b))) (c .else-place-used .either) in
     strikes-none (c .args .used) (c .args .place) ws past

@@ -25,10 +25,10 @@ returns-then-i-n g c =
     let long : length ys ≡ n - i = search (needs, places) in
     let whole : length zs ≡ length xs = search (needs, places) in
     let shifted : (j : ℕ) (d : g .R .Denot) → j + 1 < n - i → getD ys j d ≡ getD xs (i + (j + 1)) d
-          = λ j d h. search (needs, places, c .rotate-left .ensures .places .0 j d) in
+    = λ j d h. search (needs, places, c .rotate-left .ensures .places .0 j d) in
     let count : min (min (n - 1) (g .LIMIT)) (length zs) ≡ n - 1 = omega arith in
     let holds : take (min (min (n - 1) (g .LIMIT)) (length zs)) zs ≡ removed (held (c .args .self .now)) i =
-        ap (λ k. take k zs) count ∙ (held-removed xs n i ys (omega arith) le long shifted ∙ ap (λ k. removed (take k xs) i) is) in
+    ap (λ k. take k zs) count ∙ (held-removed xs n i ys (omega arith) le long shifted ∙ ap (λ k. removed (take k xs) i) is) in
     let last : (d : g .R .Denot) → getD ys (n - i - 1) d ≡ getD xs i d = λ d. search (needs, places, c .rotate-left .ensures .places .1 (n - i - 1) d) in
     record {
       holds = holds;

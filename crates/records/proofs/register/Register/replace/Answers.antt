@@ -19,7 +19,7 @@ returns-then-i-count g c =
     let l : i < n = omega arith in
     let le : n ≤ length xs = omega (arith, c .count .ensures .count) in
     let holds : take (min (min (c .args .self .now .used) (g .LIMIT)) (length (set xs i y))) (set xs i y) ≡ set (held (c .args .self .now)) i y =
-        simp length-set (held-set xs (min (min (c .args .self .now .used) (g .LIMIT)) (length xs)) i y (omega (arith, c .count .ensures .count)) (omega arith)) in
+    simp length-set (held-set xs (min (min (c .args .self .now .used) (g .LIMIT)) (length xs)) i y (omega (arith, c .count .ensures .count)) (omega arith)) in
     record {
       holds = holds;
       rises = λ same rising. subst (Rising (g .R·Keyed .number)) (sym holds) (rising-set (g .R·Keyed .number) y i (held (c .args .self .now)) same rising);

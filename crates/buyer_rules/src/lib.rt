@@ -1,0 +1,6 @@
+// A buyer's own rule, written against the public trait only, layered with the rules of the part.
+pub mod billing;
+pub mod rulebook;
+#[cfg(test)]
+mod tests;
+pub mod voltage_control;
