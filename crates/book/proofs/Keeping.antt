@@ -20,7 +20,7 @@ use Rattle.rules.specs.declared.sums.Sums.{Sums}
 use Rattle.rules.specs.Sums.{nothing, _plus_, _less_}
 use Rattle.rules.specs.Calendar.{slots, last-month}
 use Rattle.settlement.specs.Registers.{has, found, entered, changed, by-number}
-use Rattle.records.specs.Numbered.{Rising}
+use Rattle.register.specs.Numbered.{Rising}
 use Rattle.records.specs.declared.enrolment.Enrolment.{Enrolment}
 use Rattle.billing.specs.declared.reading.Reading.{Reading}
 use Rattle.billing.specs.Lines.{runs, Line, blank, number, take-reading}
@@ -36,16 +36,12 @@ use Rattle.settlement.specs.Checks.{Check, first-of}
 use Rattle.settlement.specs.Enrolling.{enrol-checks, enrol, read-checks, read}
 use Rattle.settlement.specs.Posting.{post-checks, charge, post, pay-in-checks, pay-in}
 use Rattle.settlement.specs.Objecting.{object, can-strike, answer-checks, take-off, uphold, dismiss}
-use Rattle.book.specs.History.{Placed, without, worth-of, magnitude, running-slots, passed}
+use Rattle.book.specs.History.{Placed, without, worth-of, magnitude, running-slots, passed, line-of}
 use Rattle.book.proofs.Rosters.{drawn, rising-entered, has-entered, has-drawn, entered-drawn, changed-drawn}
 use Rattle.book.proofs.Strikes.{same-sums, event-with, Falling, falling-more, falling-without, worth-struck, worth-other}
 use Rattle.book.proofs.Limiting.{days-within, postable}
 use Rattle.book.proofs.Scanning.{scanned-post, scanned-push, scanned-end, scanned-strike, by-word}
 use Rattle.book.proofs.Wording.{Fits, placed-at, At, Located, located-push, located-end, located-post, located-strike}
-
--- a party's line, as the history has it
-abbrev pub line-of : Rulebook → ℕ → List Reading → List Placed → Enrolment → Line
-line-of means m rs es = drawn (λ p. worth-of means m p es) (λ p. passed p rs) (λ p. magnitude p rs) (λ p. running-slots p rs)
 
 pub record Inv (means : Rulebook) (m : ℕ) (ps : List Enrolment) (rs : List Reading) (es : List Placed) (ws : List ℕ) (n : ℕ) (b : Book) : Type 0 where
   pub month-is : b .month ≡ m

@@ -25,7 +25,7 @@ use Rattle.settlement.specs.Registers.{by-number, found}
 use Rattle.billing.specs.declared.reading.Reading.{Reading}
 use Rattle.records.specs.declared.event.Event.{Event}
 use Rattle.records.specs.Asking.{facts}
-use Rattle.records.specs.Numbered.{Rising}
+use Rattle.register.specs.Numbered.{Rising}
 use Rattle.records.specs.Words.{kind}
 use Rattle.records.specs.Journal.{event-at, month-start, this-month, struck}
 use Rattle.settlement.specs.Asking.{sums-in, Reads-sums}
@@ -44,18 +44,18 @@ use Rattle.billing.specs.Bills.{Dues, dues, dues-of, lacks-weight, bills-of, pa
 use Rattle.settlement.specs.declared.posted.Posted.{Posted}
 use Rattle.settlement.specs.Posting.{asked, answer-to}
 use Rattle.book.specs.Runs.{Entry, Enrol, Post, PayIn, WhatIf, AccountSums, Settle, Trace, Step, new, not-new, enrol, read, post, pay-in, account-sums, publish, object, answer, what-if, account-sums-then, settle, Run, start, next}
-use Rattle.book.specs.History.{Placed, News, news, enrolled-as, month-with, enrolments-with, readings-with, standing-with, journal-with, money-with, bills-by, paid-in-with, month, enrolments, readings, without, standing, paid-in, money, bills, journal, worth-of, magnitude, running-slots, passed}
+use Rattle.book.specs.History.{Placed, News, news, enrolled-as, month-with, enrolments-with, readings-with, standing-with, journal-with, money-with, bills-by, paid-in-with, month, enrolments, readings, without, standing, paid-in, money, bills, journal, worth-of, magnitude, running-slots, passed, line-of, sorted}
 use Rattle.book.specs.Limits.{Book-fits, State-fits}
 use Rattle.book.specs.Laws.{Within-limits, sums-of, weights, Rest, Fund-pays, net-due, Lawful-settling, Lawful-posting, Lawful-sums, Lawful-what-if, Lawful, Runs-within-limits, Runs-lawful}
 use Rattle.book.specs.Serving.{Steps}
-use Rattle.book.proofs.Rosters.{sorted, rising-drawn, shuffled-sorted, found-drawn}
+use Rattle.book.proofs.Rosters.{rising-drawn, shuffled-sorted, found-drawn}
 use Rattle.book.proofs.Limiting.{sums-each, lines-fit}
 use Rattle.book.proofs.Fitting.{Held, held-new, held-enrol, held-read, held-post, held-pay-in, held-object, held-dismiss, held-uphold, held-settle}
 use Rattle.book.proofs.Strikes.{event-with}
 use Rattle.book.proofs.Scanning.{scanned-strike, by-word, by-word-is}
 use Rattle.book.proofs.Wording.{placed-at}
 use Rattle.book.proofs.Columns.{column-number, column-charge, column-pay, column-net, Closed, closed}
-use Rattle.book.proofs.Keeping.{clear, Inv, line-of, map-map, weighed, stood, fits-post, kept-enrol, kept-read, kept-post, kept-pay-in, kept-object, kept-dismiss, kept-uphold, kept-settle}
+use Rattle.book.proofs.Keeping.{clear, Inv, map-map, weighed, stood, fits-post, kept-enrol, kept-read, kept-post, kept-pay-in, kept-object, kept-dismiss, kept-uphold, kept-settle}
 
 abbrev Holds : Rulebook → Trace → Book → Type 0
 Holds means t b = Inv means (month t) (sorted (enrolments t)) (readings t) (standing t) (journal t) (money t) b
@@ -236,6 +236,7 @@ module _ (means : Rulebook) (t : Trace) (b : Book) (i : Holds means t b) where
         second = fair-same _ _ _ _ _ _ (ap (λ x. x .second) d) (by-weight (λ w. w .second)) (ap (map (λ r. r .second)) rows) (c .second);
         third = fair-same _ _ _ _ _ _ (ap (λ x. x .third) d) (by-weight (λ w. w .third)) (ap (map (λ r. r .third)) rows) (c .third);
         returned = fair-same _ _ _ _ _ _ (ap (λ x. x .returned) d) (by-weight (λ w. w .running)) (ap (map (λ r. r .returned)) rows) (c .returned);
+        determined = rows ∙ (λ j. bills-of (i .month-is j) (i .lines-are j) (i .fund-is j));
         nets = ap (map (λ r. r .net)) rows ∙ column-net (b .lines) _ _ _ _ ∙ sym (ap (map net-due) rows);
       }
 

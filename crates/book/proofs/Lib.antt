@@ -9,3 +9,4 @@ pub mod Keeping
 pub mod Fitting
 pub mod Lawful
 pub mod Heard
+pub mod Plays

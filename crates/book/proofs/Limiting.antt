@@ -22,7 +22,7 @@ use Rattle.rules.specs.declared.sums.Sums.{Sums}
 use Rattle.rules.specs.Sums.{nothing, account, put, _plus_, _less_}
 use Rattle.rules.specs.Calendar.{days, month-lengths, slots}
 use Rattle.settlement.specs.Registers.{has, found, entered, changed, removed}
-use Rattle.records.specs.Numbered.{Above, Rising}
+use Rattle.register.specs.Numbered.{Above, Rising}
 use Rattle.records.specs.declared.enrolment.Enrolment.{Enrolment}
 use Rattle.billing.specs.declared.reading.Reading.{Reading}
 use Rattle.billing.specs.Lines.{runs, Line, blank, number, take-reading}

@@ -14,9 +14,10 @@ use native.Mathlib.Omega.{arith}
 use Rattle.std.proofs.shelf.Tests.{eqb-true, eqb-false, ltb-true, ltb-false, or-parts}
 use Rattle.rules.specs.declared.sums.Sums.{Sums}
 use Rattle.settlement.specs.Registers.{has, found, entered, changed, by-number}
-use Rattle.records.specs.Numbered.{Above, Rising}
+use Rattle.register.specs.Numbered.{Above, Rising}
 use Rattle.records.specs.declared.enrolment.Enrolment.{Enrolment}
 use Rattle.billing.specs.Lines.{Line, number}
+use Rattle.book.specs.History.{sorted}
 
 -- the line of a party by its figures
 abbrev pub drawn : (Enrolment → Sums) → (a m r : Enrolment → ℕ) → Enrolment → Line
@@ -44,11 +45,6 @@ rising-entered p (q ∷ qs) e r = go (rising-entered p qs (or-parts _ _ e .1) (r
         let apart = eqb-false (q .number) (p .number) (or-parts (eqb (q .number) (p .number)) (has by-number (p .number) qs) e .0) in
         let below = ltb-false (p .number) (q .number) h in
         (above-entered (q .number) p qs (omega arith) (r .0), ih)
-
--- the parties in rising number
-abbrev pub sorted : List Enrolment → List Enrolment
-sorted [] = []
-sorted (p ∷ ps) = entered by-number p (sorted ps)
 
 shuffled-entered : (p : Enrolment) (ps : List Enrolment) → Shuffled (p ∷ ps) (entered by-number p ps)
 shuffled-entered p [] = shuffled-refl (p ∷ [])

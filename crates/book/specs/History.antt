@@ -13,7 +13,9 @@ use Rattle.rules.specs.Answers.{Rulebook}
 use Rattle.rules.specs.declared.sums.Sums.{Sums}
 use Rattle.records.specs.declared.enrolment.Enrolment.{Enrolment}
 use Rattle.billing.specs.declared.reading.Reading.{Reading}
-use Rattle.billing.specs.Lines.{runs}
+use Rattle.billing.specs.Lines.{Line, runs}
+use Rattle.billing.specs.Bills.{bills-of}
+use Rattle.settlement.specs.Registers.{by-number, entered}
 use Rattle.records.specs.declared.event.Event.{Event}
 use Rattle.records.specs.Asking.{worth}
 use Rattle.records.specs.Words.{word, event-words}
@@ -210,3 +212,22 @@ running-slots p (r ∷ rs) = cond (eqb (r .party) (p .number)) (running-slots p 
 abbrev pub passed : Enrolment → List Reading → ℕ
 passed p [] = 0
 passed p (r ∷ rs) = cond (eqb (r .party) (p .number)) (r .slot + 1) (passed p rs)
+
+-- A party's line, as the month's events and readings make it.
+abbrev pub line-of : Rulebook → ℕ → List Reading → List Placed → Enrolment → Line
+line-of means m rs es p = record {
+  party = p;
+  sums = worth-of means m p es;
+  passed = passed p rs;
+  magnitude = magnitude p rs;
+  running = running-slots p rs;
+}
+
+-- The parties in rising number.
+abbrev pub sorted : List Enrolment → List Enrolment
+sorted [] = []
+sorted (p ∷ ps) = entered by-number p (sorted ps)
+
+-- The bills of a month, from its enrolments, readings and standing events, and the money in the fund.
+abbrev pub statement : Rulebook → ℕ → List Enrolment → List Reading → List Placed → ℕ → List Bill
+statement means m ps rs es fund = bills-of m (map (line-of means m rs es) (sorted ps)) fund

@@ -11,7 +11,7 @@ use Rattle.rules.specs.Answers.{Rulebook, Bounded}
 use Rattle.rules.specs.declared.facts.Facts.{Facts}
 use Rattle.rules.specs.declared.sums.Sums.{Sums}
 use Rattle.rules.specs.Sums.{together, listed}
-use Rattle.records.specs.Numbered.{Rising}
+use Rattle.register.specs.Numbered.{Rising}
 use Rattle.records.specs.declared.enrolment.Enrolment.{Enrolment}
 use Rattle.settlement.specs.Registers.{by-number}
 use Rattle.records.specs.declared.event.Event.{Event}
@@ -25,7 +25,7 @@ use Rattle.settlement.specs.Settling.{Reckoning}
 use Rattle.billing.specs.Bills.{pay-of, net-sum}
 use Rattle.settlement.specs.declared.posted.Posted.{Posted}
 use Rattle.book.specs.Runs.{Post, PayIn, WhatIf, AccountSums, Settle, Trace, Run}
-use Rattle.book.specs.History.{month, enrolments, readings, without, standing, paid-in, money, bills, journal, Placed, worth-of, magnitude, running-slots}
+use Rattle.book.specs.History.{month, enrolments, readings, without, standing, paid-in, money, bills, journal, Placed, worth-of, magnitude, running-slots, statement}
 
 -- The law of a rule: no amount passes the ceiling.
 abbrev pub Within-limits : Rulebook → Type 0
@@ -78,6 +78,8 @@ pub record Lawful-settling (means : Rulebook) (t : Trace) (s : Reckoning) : Type
   pub third : Fair (rest .third) (map (λ p. weights t p .third) parties) (map (λ b. b .third) (s .rows))
   pub returned : Fair (together (map (sums-of means t) parties) .charges) (map (λ p. weights t p .running) parties) (map (λ b. b .returned) (s .rows))
   pub nets : map (λ b. b .net) (s .rows) ≡ map net-due (s .rows)
+  -- all rows together are one function of the month's enrolments, readings and standing events, the fund and the month
+  pub determined : s .rows ≡ statement means (month t) (enrolments t) (readings t) (standing t) (money t)
 
 -- A posting, after the calls of a trace: the event takes the next place of the journal, and the answer is what the rulebook means
 -- for it, at the party enrolled under its number.

@@ -4,3 +4,5 @@ pub mod Limits
 pub mod Laws
 pub mod Entries
 pub mod Serving
+pub mod Playing
+pub mod Sample

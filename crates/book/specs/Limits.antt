@@ -3,7 +3,7 @@ use Prim.Native.Nat.{ℕ, _*_, _<_, _≤_}
 use lib.ListN.{length}
 use Rattle.std.specs.shelf.Lists.{All}
 use Rattle.rules.specs.declared.sums.Sums.{Sums}
-use Rattle.records.specs.Numbered.{Rising}
+use Rattle.register.specs.Numbered.{Rising}
 use Rattle.records.specs.declared.enrolment.Enrolment.{Enrolment}
 use Rattle.billing.specs.Lines.{Line, number}
 use Rattle.settlement.specs.Book.{Book, State, no-book, in-month, published}

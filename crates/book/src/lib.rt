@@ -5,3 +5,4 @@ pub mod laws;
 pub mod playing;
 pub mod serving;
 pub mod stage;
+pub mod worked;

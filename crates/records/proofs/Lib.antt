@@ -1,5 +1,3 @@
-pub mod Lines
-pub mod Rises
 pub mod Months
 pub mod Events
 pub mod Strikes

@@ -1,5 +1,3 @@
-pub mod Numbered
-pub mod Held
 pub mod Words
 pub mod Asking
 pub mod Journal

@@ -1,7 +1,6 @@
-// Lent memory: registers of numbered records, and the words of the journal.
+// Lent memory: the words of the journal, and what they come to.
 pub mod enrolment;
 pub mod event;
 pub mod journal;
-pub mod register;
 pub mod sums;
 pub mod what_if;

@@ -12,7 +12,7 @@ use Rattle.std.specs.Holes.{inserted, removed}
 use Rattle.std.specs.declared.option.Option.{Option}
 use Rattle.std.specs.declared.option.Option.the-variants.{Some, None}
 use Rattle.std.proofs.shelf.Lists.{map-append, take-map, drop-map}
-use Rattle.records.specs.Numbered.{first-from, place-from}
+use Rattle.register.specs.Numbered.{first-from, place-from}
 use Rattle.settlement.specs.Registers.{has, found, entered, changed}
 use Rattle.settlement.specs.Registers as by
 use Rattle.settlement.specs.Finding.{Found-at, Absent}

@@ -6,8 +6,8 @@ use native.Mathlib.Omega.{arith}
 use lib.ListN.{length, take, drop, set}
 use Rattle.std.specs.Finite.{nth}
 use Rattle.std.proofs.shelf.Lists.{length-map, length-take, length-set}
-use Rattle.records.specs.declared.register.Register.{Register}
-use Rattle.records.specs.Held.{held, count, Kept}
+use Rattle.register.specs.declared.Register.{Register}
+use Rattle.register.specs.Held.{held, count, Kept}
 use Rattle.billing.specs.declared.party.Party.{Party}
 use Rattle.billing.specs.Lent.{line-of, lined, lines-of}
 use Rattle.std.specs.declared.option.Option.{Option}

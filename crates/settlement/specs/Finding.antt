@@ -8,8 +8,8 @@ use lib.ListN.{length, set}
 use Rattle.std.specs.Holes.{removed}
 use Rattle.std.specs.declared.option.Option.{Option}
 use Rattle.std.specs.declared.option.Option.the-variants.{Some, None}
-use Rattle.records.specs.declared.register.Register.{Register}
-use Rattle.records.specs.Held.{room}
+use Rattle.register.specs.declared.Register.{Register}
+use Rattle.register.specs.Held.{room}
 use Rattle.billing.specs.declared.party.Party.{Party}
 use Rattle.billing.specs.Lines.{Line, number, blank}
 use Rattle.billing.specs.Lent.{line-of, lines-of}

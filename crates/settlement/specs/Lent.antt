@@ -7,7 +7,7 @@ use denote.Ref.{name}
 use lib.ListN.{length, take, drop}
 use Rattle.std.specs.declared.result.Result.{Result}
 use Rattle.std.specs.declared.result.Result.the-variants.{Ok, Err}
-use Rattle.records.specs.Held.{held, room, Kept}
+use Rattle.register.specs.Held.{held, room, Kept}
 use Rattle.rules.specs.declared.refusal.Refusal.{Refusal}
 use Rattle.billing.specs.Lent.{lines-of}
 use Rattle.settlement.specs.Book.{Book, Room}

@@ -8,8 +8,8 @@ use lib.ListN.{length, set}
 use Rattle.std.specs.Holes.{removed}
 use Rattle.std.specs.declared.option.Option.{Option}
 use Rattle.std.specs.declared.option.Option.the-variants.{Some, None}
-use Rattle.records.specs.declared.register.Register.{Register}
-use Rattle.records.specs.Held.{held, room}
+use Rattle.register.specs.declared.Register.{Register}
+use Rattle.register.specs.Held.{held, room}
 use Rattle.settlement.specs.declared.objection.Objection.{Objection}
 use Rattle.settlement.specs.Registers as by
 use Rattle.settlement.specs.Book.{place-of}

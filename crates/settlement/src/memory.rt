@@ -2,13 +2,13 @@
 ghost use mathlib.Core.Path.{_≡_};
 ghost use mathlib.Core.List.{[]};
 ghost use denote.Ref.{name};
-ghost use Rattle.records.specs.Held.{held};
+ghost use Rattle.register.specs.Held.{held};
 use crate::objection::Objection;
 use crate::objection::ObjectionKeyed;
 use billing::party::Party;
 use billing::party::PartyKeyed;
 use billing::party::Roster;
-use records::register::Register;
+use register::Register;
 
 // The objections of a published month, by the place of their event.
 pub type Objections<'a> = Register<'a, Objection, 16>;

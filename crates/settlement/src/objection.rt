@@ -1,5 +1,5 @@
 // An objection, by the place of the event that it objects to.
-use records::register::Keyed;
+use register::Keyed;
 
 #[derive(Clone, Copy)]
 pub struct Objection {

@@ -3,14 +3,14 @@ ghost use mathlib.Core.Path.{_≡_};
 ghost use mathlib.Core.Bool.{false};
 ghost use lib.ListN.{set};
 ghost use Rattle.std.specs.Holes.{removed};
-ghost use Rattle.records.specs.Held.{held, Kept};
+ghost use Rattle.register.specs.Held.{held, Kept};
 ghost use Rattle.settlement.specs.Registers.{has};
 ghost use Rattle.settlement.specs.Book.{place-of};
 ghost use Rattle.settlement.specs.Objections.{Lodging, Pending};
 use crate::memory::Objections;
 use crate::objection::Objection;
 use crate::objection::ObjectionKeyed;
-use records::register::Keyed;
+use register::Keyed;
 
 // There is an objection to the event, open or dismissed.
 pub(crate) fn is_objected(objections: &Objections, place: u32) -> bool

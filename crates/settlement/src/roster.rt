@@ -2,13 +2,13 @@
 ghost use mathlib.Core.Path.{_≡_};
 ghost use Prim.Native.Nat.{_≤_};
 ghost use lib.ListN.{length, set};
-ghost use Rattle.records.specs.Held.{Kept};
+ghost use Rattle.register.specs.Held.{Kept};
 ghost use Rattle.billing.specs.Lent.{line-of, lines-of};
 ghost use Rattle.settlement.specs.Finding.{Line-found, Entering};
 use billing::party::Party;
 use billing::party::PartyKeyed;
 use billing::party::Roster;
-use records::register::Keyed;
+use register::Keyed;
 
 // Where the party stands, and its line.
 pub(crate) fn line_of(roster: &Roster, number: u32) -> Option<(usize, Party)>

@@ -9,7 +9,7 @@ use super::PublishedMonth;
 use crate::memory::Memory;
 use crate::objection::ObjectionKeyed;
 use billing::party::PartyKeyed;
-use records::register::Keyed;
+use register::Keyed;
 use rules::refusal::Refusal;
 
 impl OpenMonth {

@@ -1,14 +1,14 @@
 // The lines of a new month: readings and sums are empty.
 ghost use mathlib.Core.Path.{_≡_};
 ghost use mathlib.Core.List.{map};
-ghost use Rattle.records.specs.Held.{Kept};
+ghost use Rattle.register.specs.Held.{Kept};
 ghost use Rattle.billing.specs.Lent.{lines-of};
 ghost use Rattle.settlement.specs.Settling.{renewed};
 use crate::roster::put;
 use billing::party::Party;
 use billing::party::PartyKeyed;
 use billing::party::Roster;
-use records::register::Keyed;
+use register::Keyed;
 
 pub(super) fn renew(roster: &mut Roster)
     ensures lines { λ _. ⌜ lines-of (now (roster .exit)) ≡ map renewed (lines-of (now (roster .entry))) ⌝ }

@@ -25,7 +25,7 @@ use records::event::MONTH_END;
 use records::event::word;
 use records::journal::MOST_WORDS;
 use records::journal::append;
-use records::register::Keyed;
+use register::Keyed;
 use rules::refusal::Refusal;
 
 // December 2099.

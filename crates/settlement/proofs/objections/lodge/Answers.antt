@@ -1,7 +1,7 @@
 use mathlib.Core.Path.{ap, _∙_}
 use lib.Dec.{leb}
 use lib.ListN.{length}
-use Rattle.records.specs.Held.{held}
+use Rattle.register.specs.Held.{held}
 use Rattle.settlement.specs.Book.{place-of}
 use Rattle.settlement.proofs.Finds.{entered-here, min-twice}
 use Rattle.settlement.proofs.objections.lodge.Needs as need

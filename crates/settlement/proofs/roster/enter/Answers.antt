@@ -2,7 +2,7 @@ use mathlib.Core.List.{map}
 use mathlib.Core.Path.{ap, _∙_}
 use lib.Dec.{leb}
 use lib.ListN.{length}
-use Rattle.records.specs.Held.{held, room}
+use Rattle.register.specs.Held.{held, room}
 use Rattle.std.proofs.shelf.Lists.{length-map}
 use Rattle.billing.specs.Lines.{number}
 use Rattle.billing.specs.Lent.{line-of, lines-of}

@@ -1,6 +1,6 @@
 use mathlib.Core.List.{map}
 use mathlib.Core.Path.{ap, _∙_}
-use Rattle.records.specs.Held.{held}
+use Rattle.register.specs.Held.{held}
 use Rattle.std.proofs.shelf.Lists.{map-set}
 use Rattle.billing.specs.Lent.{line-of}
 use Rattle.settlement.proofs.roster.put.Needs as need

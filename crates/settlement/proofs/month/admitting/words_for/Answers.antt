@@ -12,5 +12,5 @@ returns-then-event-slots-in c = slot-outside (c .args .count) (c .args .event .n
 
 pub returns : need.returns
 returns c =
-    subst (Words-for (c .args .count) (c .args .event .now)) (sym (c .words .ensures))
+    subst (Words-for (c .args .count) (c .args .event .now)) (sym (c .words .ensures .words))
     (written (c .args .count) (c .args .event .now) (c .pre) (omega arith) (search needs))

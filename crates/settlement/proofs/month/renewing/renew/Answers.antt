@@ -3,12 +3,12 @@ use native.Mathlib.Omega.{arith}
 use lib.ListN.{set, take}
 use mathlib.Core.List.{map}
 use Rattle.std.proofs.shelf.Lists.{take-all}
-use Rattle.records.specs.Held.{held, count, Kept}
+use Rattle.register.specs.Held.{held, count, Kept}
 use Rattle.settlement.specs.Settling.{renewed}
 use Rattle.billing.specs.Lent.{lines-of, lined, line-of}
 use Rattle.settlement.proofs.Renewals.{So-far, one-more, none-more, nth-lined, count-long, same-count, kept-twice}
 use Prim.Native.Nat.{_+_}
-use Rattle.records.specs.declared.register.Register.{Register}
+use Rattle.register.specs.declared.Register.{Register}
 use Rattle.billing.specs.declared.party.Party.{Party}
 use Rattle.settlement.proofs.month.renewing.renew.Needs as need
 use Rattle.settlement.proofs.month.renewing.renew.Needs.{in-Some, in-rest}

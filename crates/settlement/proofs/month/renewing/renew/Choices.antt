@@ -1,5 +1,5 @@
 use mathlib.Core.Path.{_≡_}
-use Rattle.records.specs.Held.{count, Kept}
+use Rattle.register.specs.Held.{count, Kept}
 use Rattle.billing.specs.Lent.{lines-of}
 use Rattle.settlement.proofs.Renewals.{So-far}
 use Rattle.settlement.proofs.month.renewing.renew.Given as given
