@@ -127,4 +127,3 @@ Runs-lawful means = (t : Trace) (s : State) → Run means t s → Lawful means t
 -- Every run keeps every figure of the book within its limits.
 abbrev pub Runs-within-limits : Rulebook → Type 0
 Runs-within-limits means = (t : Trace) (s : State) → Run means t s → State-fits s
-

@@ -15,7 +15,13 @@ use settlement::memory::Memory;
 use settlement::objection::ObjectionKeyed;
 
 // Serves the calls one after another, as many as the log has room for, and puts each answer into the log.
-pub fn play<P: Rule>(memory: &mut Memory, sheet: &mut [Bill], rulebook: &P, calls: &[Call], log: &mut [Answer]) -> Stage
+pub fn play<P: Rule>(
+    memory: &mut Memory,
+    sheet: &mut [Bill],
+    rulebook: &P,
+    calls: &[Call],
+    log: &mut [Answer],
+) -> Stage
     ensures played { λ r. ⌜ Played (meaning (now (rulebook .entry))) (take (min (length (now (calls .entry))) (length (now (log .entry)))) (now (calls .entry))) (take (min (length (now (calls .entry))) (length (now (log .entry)))) (now (log .exit))) (state-of r (now (memory .exit))) ⌝ }
     ensures rest { λ _. ⌜ drop (min (length (now (calls .entry))) (length (now (log .entry)))) (now (log .exit)) ≡ drop (min (length (now (calls .entry))) (length (now (log .entry)))) (now (log .entry)) ⌝ }
 {

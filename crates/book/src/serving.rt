@@ -72,7 +72,12 @@ fn in_no_book(memory: &mut Memory, call: Call) -> (Stage, Answer)
     }
 }
 
-fn in_open<P: Rule>(month: OpenMonth, memory: &mut Memory, rulebook: &P, call: Call) -> (Stage, Answer)
+fn in_open<P: Rule>(
+    month: OpenMonth,
+    memory: &mut Memory,
+    rulebook: &P,
+    call: Call,
+) -> (Stage, Answer)
     ensures served { λ r. ⌜ ((rows : ℕ) (sheet : List Bill) → Served (meaning (now (rulebook .entry))) (room-of rows (now (memory .entry))) (in-month (opened month (now (memory .entry)))) call (r .1) sheet (state-of (r .0) (now (memory .exit)))) ⌝ }
     ensures left { λ r. ⌜ Memory-left (r .1) (state-of (r .0) (now (memory .exit))) (now (memory .entry)) (now (memory .exit)) ⌝ }
 {
@@ -107,7 +112,13 @@ fn in_open<P: Rule>(month: OpenMonth, memory: &mut Memory, rulebook: &P, call: C
     }
 }
 
-fn in_published<P: Rule>(month: PublishedMonth, memory: &mut Memory, sheet: &mut [Bill], rulebook: &P, call: Call) -> (Stage, Answer)
+fn in_published<P: Rule>(
+    month: PublishedMonth,
+    memory: &mut Memory,
+    sheet: &mut [Bill],
+    rulebook: &P,
+    call: Call,
+) -> (Stage, Answer)
     ensures served { λ r. ⌜ Served (meaning (now (rulebook .entry))) (room-of (length (now (sheet .entry))) (now (memory .entry))) (published (closing month (now (memory .entry)))) call (r .1) (now (sheet .exit)) (state-of (r .0) (now (memory .exit))) ⌝ }
     ensures left { λ r. ⌜ Memory-left (r .1) (state-of (r .0) (now (memory .exit))) (now (memory .entry)) (now (memory .exit)) ⌝ }
     ensures sheet { λ r. ⌜ Sheet-left (r .1) (now (sheet .entry)) (now (sheet .exit)) ⌝ }
@@ -137,7 +148,13 @@ fn in_published<P: Rule>(month: PublishedMonth, memory: &mut Memory, sheet: &mut
     }
 }
 
-fn serve_any<P: Rule>(stage: Stage, memory: &mut Memory, sheet: &mut [Bill], rulebook: &P, call: Call) -> (Stage, Answer)
+fn serve_any<P: Rule>(
+    stage: Stage,
+    memory: &mut Memory,
+    sheet: &mut [Bill],
+    rulebook: &P,
+    call: Call,
+) -> (Stage, Answer)
     ensures served { λ r. ⌜ Served (meaning (now (rulebook .entry))) (room-of (length (now (sheet .entry))) (now (memory .entry))) (state-of stage (now (memory .entry))) call (r .1) (now (sheet .exit)) (state-of (r .0) (now (memory .exit))) ⌝ }
     ensures left { λ r. ⌜ Memory-left (r .1) (state-of (r .0) (now (memory .exit))) (now (memory .entry)) (now (memory .exit)) ⌝ }
     ensures sheet { λ r. ⌜ Sheet-left (r .1) (now (sheet .entry)) (now (sheet .exit)) ⌝ }
@@ -150,7 +167,13 @@ fn serve_any<P: Rule>(stage: Stage, memory: &mut Memory, sheet: &mut [Bill], rul
 }
 
 // Whatever run led here, the call makes a longer run, and a lawful one. Where the state does not allow the call, nothing changes.
-pub fn serve<P: Rule>(stage: Stage, memory: &mut Memory, sheet: &mut [Bill], rulebook: &P, call: Call) -> (Stage, Answer)
+pub fn serve<P: Rule>(
+    stage: Stage,
+    memory: &mut Memory,
+    sheet: &mut [Bill],
+    rulebook: &P,
+    call: Call,
+) -> (Stage, Answer)
     ensures carries { λ r. ⌜ Carries (meaning (now (rulebook .entry))) (room-of (length (now (sheet .entry))) (now (memory .entry))) (state-of stage (now (memory .entry))) call (r .1) (now (sheet .exit)) (state-of (r .0) (now (memory .exit))) ⌝ }
     ensures left { λ r. ⌜ Memory-left (r .1) (state-of (r .0) (now (memory .exit))) (now (memory .entry)) (now (memory .exit)) ⌝ }
     ensures sheet { λ r. ⌜ Sheet-left (r .1) (now (sheet .entry)) (now (sheet .exit)) ⌝ }

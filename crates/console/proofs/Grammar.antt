@@ -26,7 +26,7 @@ rest-digits d ds a = search needs
 
 -- digits, and no digit after them, are read whole
 pub numeral-reads : (room n : ℕ) (ds rest : List ℕ) → room ≤ 9 → allDigits ds ≡ true → length ds ≤ room → (length ds ≡ 0 → room ≡ 9 → ⊥) → LacksDigit rest
-  → numeral room n (ds ++ rest) ≡ Some (readOn n ds, rest)
+    → numeral room n (ds ++ rest) ≡ Some (readOn n ds, rest)
 numeral-reads room n [] [] b a l h x = grind (arith, tells)
 numeral-reads room n [] (c ∷ cs) b a l h x = grind (arith, tells)
 numeral-reads room n (d ∷ ds) rest b a l h x =
@@ -63,8 +63,8 @@ none-front room n xs v rest x e =
     }
 
 one-front : (t u : Bool) (room n c : ℕ) (cs : List ℕ) (v : ℕ) (rest : List ℕ) → asciiDigit c ≡ t → eqb room 0 ≡ u
-  → (numeral (room - 1) (n * 10 + (c - 48)) cs ≡ Some (v, rest) → Front (room - 1) (n * 10 + (c - 48)) cs v rest)
-  → cond t (cond u None (numeral (room - 1) (n * 10 + (c - 48)) cs)) (ended room n (c ∷ cs)) ≡ Some (v, rest) → Front room n (c ∷ cs) v rest
+    → (numeral (room - 1) (n * 10 + (c - 48)) cs ≡ Some (v, rest) → Front (room - 1) (n * 10 + (c - 48)) cs v rest)
+    → cond t (cond u None (numeral (room - 1) (n * 10 + (c - 48)) cs)) (ended room n (c ∷ cs)) ≡ Some (v, rest) → Front room n (c ∷ cs) v rest
 one-front false u room n c cs v rest a z more e = none-front room n (c ∷ cs) v rest a e
 one-front true true room n c cs v rest a z more e = let w : _≡_ {A = ℕ} 0 1 = cc in absurd (omega arith)
 one-front true false room n c cs v rest a z more e =

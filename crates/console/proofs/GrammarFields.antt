@@ -47,7 +47,7 @@ signed-reads z ds more (inr t) x =
 
 -- and the other way
 pub then-is : {A B : Type 0} (o : Option (A × List ℕ)) (k : A → List ℕ → Option (B × List ℕ)) (r : B × List ℕ) → andThen o k ≡ Some r
-  → (p : A × List ℕ) × (o ≡ Some p) × (k (p .0) (p .1) ≡ Some r)
+    → (p : A × List ℕ) × (o ≡ Some p) × (k (p .0) (p .1) ≡ Some r)
 then-is None k r e = let z : _≡_ {A = ℕ} 0 1 = cc in absurd (omega arith)
 then-is (Some p) k r e = (p, refl, e)
 
@@ -77,19 +77,21 @@ signedAt-is [] z rest e = absurd (none-is (z, rest) e)
 signedAt-is (c ∷ cs) z rest e =
     ⊎-elim
     (λ w.
-      let p = then-is (numeral 9 0 cs) (λ n more. Some (negℤ (pos n), more)) (z, rest) (w .1) in
-      let q : (negℤ (pos (p .0 .0)), p .0 .1) ≡ (z, rest) = cc (p .2) in
-      let t = number-is cs (p .0 .0) (p .0 .1) (p .1) in
-      ( 45 ∷ t .0,
-        ap (λ d. d ∷ cs) (eqb-true c 45 (w .0)) ∙ ap (λ xs. 45 ∷ xs) (t .1) ∙ ap (λ r. 45 ∷ (t .0 ++ r)) (ap (λ (u : ℤ × List ℕ). u .1) q),
-        inr (p .0 .0, t .0, refl, t .2, sym (ap (λ (u : ℤ × List ℕ). u .0) q))))
+    let p = then-is (numeral 9 0 cs) (λ n more. Some (negℤ (pos n), more)) (z, rest) (w .1) in
+    let q : (negℤ (pos (p .0 .0)), p .0 .1) ≡ (z, rest) = cc (p .2) in
+    let t = number-is cs (p .0 .0) (p .0 .1) (p .1) in (
+      45 ∷ t .0,
+      ap (λ d. d ∷ cs) (eqb-true c 45 (w .0)) ∙ ap (λ xs. 45 ∷ xs) (t .1) ∙ ap (λ r. 45 ∷ (t .0 ++ r)) (ap (λ (u : ℤ × List ℕ). u .1) q),
+      inr (p .0 .0, t .0, refl, t .2, sym (ap (λ (u : ℤ × List ℕ). u .0) q)),
+    ))
     (λ w.
-      let p = then-is (numeral 9 0 (c ∷ cs)) (λ n more. Some (pos n, more)) (z, rest) (w .1) in
-      let q : (pos (p .0 .0), p .0 .1) ≡ (z, rest) = cc (p .2) in
-      let t = number-is (c ∷ cs) (p .0 .0) (p .0 .1) (p .1) in
-      ( t .0,
-        t .1 ∙ ap (λ r. t .0 ++ r) (ap (λ (u : ℤ × List ℕ). u .1) q),
-        inl (p .0 .0, t .2, sym (ap (λ (u : ℤ × List ℕ). u .0) q))))
+    let p = then-is (numeral 9 0 (c ∷ cs)) (λ n more. Some (pos n, more)) (z, rest) (w .1) in
+    let q : (pos (p .0 .0), p .0 .1) ≡ (z, rest) = cc (p .2) in
+    let t = number-is (c ∷ cs) (p .0 .0) (p .0 .1) (p .1) in (
+      t .0,
+      t .1 ∙ ap (λ r. t .0 ++ r) (ap (λ (u : ℤ × List ℕ). u .1) q),
+      inl (p .0 .0, t .2, sym (ap (λ (u : ℤ × List ℕ). u .0) q)),
+    ))
     (way (eqb c 45) (negated (numeral 9 0 cs)) (asPlain (numeral 9 0 (c ∷ cs))) (z, rest) e)
 
 pub signed-is : (xs : List ℕ) (z : ℤ) (rest : List ℕ) → signed xs ≡ Some (z, rest) → (ds : List ℕ) × (xs ≡ 32 ∷ (ds ++ rest)) × FieldText (net z) ds

@@ -80,7 +80,7 @@ pair-is : {A : Type 0} (p q : A) → _≡_ {A = Option A} (Some p) (Some q) → 
 pair-is p q e = cc
 
 made-is : (l : ℕ) (xs ys : List ℕ) (made c : Command) → _≡_ {A = Option (Command × List ℕ)} (Some (made, ys)) (Some (c, [])) → letter made ≡ l
-  → (ys ≡ [] → Fields (fields made) xs) → Good l xs c
+    → (ys ≡ [] → Fields (fields made) xs) → Good l xs c
 made-is l xs ys made c e k f =
     let q = pair-is (made, ys) (c, []) e in
     subst (Good l xs) (ap (λ (u : Command × List ℕ). u .0) q) (k, f (ap (λ (u : Command × List ℕ). u .1) q))
@@ -155,12 +155,12 @@ new-is xs c e =
     let f1e = f1 .1 in
     ⊎-elim
     (λ w.
-      let f2e = f-at (f1 .0 .1) (f2 .0) 1 (f2 .1) (eqb-true (f2 .0 .0) 1 (w .0)) in
-      made-is 78 xs (f2 .0 .1) (New (f0 .0 .0) (f1 .0 .0) First) c (w .1) refl (λ z. (plain-read (f0 .0 .0) (plain (f1 .0 .0) ∷ plain 1 ∷ []) xs (f0 .0 .1) f0e (plain-read (f1 .0 .0) (plain 1 ∷ []) (f0 .0 .1) (f1 .0 .1) f1e (plain-read 1 [] (f1 .0 .1) (f2 .0 .1) f2e z)))))
+    let f2e = f-at (f1 .0 .1) (f2 .0) 1 (f2 .1) (eqb-true (f2 .0 .0) 1 (w .0)) in
+    made-is 78 xs (f2 .0 .1) (New (f0 .0 .0) (f1 .0 .0) First) c (w .1) refl (λ z. (plain-read (f0 .0 .0) (plain (f1 .0 .0) ∷ plain 1 ∷ []) xs (f0 .0 .1) f0e (plain-read (f1 .0 .0) (plain 1 ∷ []) (f0 .0 .1) (f1 .0 .1) f1e (plain-read 1 [] (f1 .0 .1) (f2 .0 .1) f2e z)))))
     (λ v. ⊎-elim
     (λ w.
-      let f2e = f-at (f1 .0 .1) (f2 .0) 2 (f2 .1) (eqb-true (f2 .0 .0) 2 (w .0)) in
-      made-is 78 xs (f2 .0 .1) (New (f0 .0 .0) (f1 .0 .0) Second) c (w .1) refl (λ z. (plain-read (f0 .0 .0) (plain (f1 .0 .0) ∷ plain 2 ∷ []) xs (f0 .0 .1) f0e (plain-read (f1 .0 .0) (plain 2 ∷ []) (f0 .0 .1) (f1 .0 .1) f1e (plain-read 2 [] (f1 .0 .1) (f2 .0 .1) f2e z)))))
+    let f2e = f-at (f1 .0 .1) (f2 .0) 2 (f2 .1) (eqb-true (f2 .0 .0) 2 (w .0)) in
+    made-is 78 xs (f2 .0 .1) (New (f0 .0 .0) (f1 .0 .0) Second) c (w .1) refl (λ z. (plain-read (f0 .0 .0) (plain (f1 .0 .0) ∷ plain 2 ∷ []) xs (f0 .0 .1) f0e (plain-read (f1 .0 .0) (plain 2 ∷ []) (f0 .0 .1) (f1 .0 .1) f1e (plain-read 2 [] (f1 .0 .1) (f2 .0 .1) f2e z)))))
     (λ w. absurd (none-is (c, []) (w .1)))
     (way (eqb (f2 .0 .0) 2) (Some (New (f0 .0 .0) (f1 .0 .0) Second, (f2 .0 .1))) None (c, []) (v .1)))
     (way (eqb (f2 .0 .0) 1) (Some (New (f0 .0 .0) (f1 .0 .0) First, (f2 .0 .1))) _ (c, []) (f2 .2))
@@ -172,18 +172,18 @@ answer-is xs c e =
     let f0e = f0 .1 in
     ⊎-elim
     (λ w.
-      let f1e = f-at (f0 .0 .1) (f1 .0) 1 (f1 .1) (eqb-true (f1 .0 .0) 1 (w .0)) in
-      made-is 65 xs (f1 .0 .1) (Answer (f0 .0 .0) true) c (w .1) refl (λ z. (plain-read (f0 .0 .0) (plain 1 ∷ []) xs (f0 .0 .1) f0e (plain-read 1 [] (f0 .0 .1) (f1 .0 .1) f1e z))))
+    let f1e = f-at (f0 .0 .1) (f1 .0) 1 (f1 .1) (eqb-true (f1 .0 .0) 1 (w .0)) in
+    made-is 65 xs (f1 .0 .1) (Answer (f0 .0 .0) true) c (w .1) refl (λ z. (plain-read (f0 .0 .0) (plain 1 ∷ []) xs (f0 .0 .1) f0e (plain-read 1 [] (f0 .0 .1) (f1 .0 .1) f1e z))))
     (λ v. ⊎-elim
     (λ w.
-      let f1e = f-at (f0 .0 .1) (f1 .0) 0 (f1 .1) (eqb-true (f1 .0 .0) 0 (w .0)) in
-      made-is 65 xs (f1 .0 .1) (Answer (f0 .0 .0) false) c (w .1) refl (λ z. (plain-read (f0 .0 .0) (plain 0 ∷ []) xs (f0 .0 .1) f0e (plain-read 0 [] (f0 .0 .1) (f1 .0 .1) f1e z))))
+    let f1e = f-at (f0 .0 .1) (f1 .0) 0 (f1 .1) (eqb-true (f1 .0 .0) 0 (w .0)) in
+    made-is 65 xs (f1 .0 .1) (Answer (f0 .0 .0) false) c (w .1) refl (λ z. (plain-read (f0 .0 .0) (plain 0 ∷ []) xs (f0 .0 .1) f0e (plain-read 0 [] (f0 .0 .1) (f1 .0 .1) f1e z))))
     (λ w. absurd (none-is (c, []) (w .1)))
     (way (eqb (f1 .0 .0) 0) (Some (Answer (f0 .0 .0) false, (f1 .0 .1))) None (c, []) (v .1)))
     (way (eqb (f1 .0 .0) 1) (Some (Answer (f0 .0 .0) true, (f1 .0 .1))) _ (c, []) (f1 .2))
 
 letter-way : (l k : ℕ) (x y : Option (Command × List ℕ)) (xs : List ℕ) (c : Command) → cond (eqb l k) x y ≡ Some (c, [])
-  → (x ≡ Some (c, []) → Good k xs c) → (y ≡ Some (c, []) → Good l xs c) → Good l xs c
+    → (x ≡ Some (c, []) → Good k xs c) → (y ≡ Some (c, []) → Good l xs c) → Good l xs c
 letter-way l k x y xs c e f g =
     let P : ℕ → Type 0 = λ m. Good m xs c in
     ⊎-elim (λ w. subst P (sym (eqb-true l k (w .0))) (f (w .1))) (λ w. g (w .1)) (way (eqb l k) x y (c, []) e)

@@ -35,14 +35,15 @@ put-sound xs a k s ys e l h = omega (arith, put-length xs a k s ys e l h)
 
 -- the written front of a page, and what lies past it
 front : (s : List ℕ) (p q : Page) → Fits s p → Put s p q
-  → (take (q .used) (bytes q) ≡ take (p .used) (bytes p) ++ s) × (drop (q .used) (bytes q) ≡ drop (q .used) (bytes p))
+    → (take (q .used) (bytes q) ≡ take (p .used) (bytes p) ++ s) × (drop (q .used) (bytes q) ≡ drop (q .used) (bytes p))
 front s p q f w =
     let before = bytes p in
     let e : bytes q ≡ (take (p .used) before ++ s) ++ drop (p .used + length s) before = w .text ∙ sym (append-assoc (take (p .used) before) s _) in
     let n : length (take (p .used) before ++ s) ≡ q .used =
-      length-append (take (p .used) before) s ∙ omega (arith, length-take-le (p .used) before (omega arith)) in
-    ( ap (take (q .used)) e ∙ take-at (take (p .used) before ++ s) (drop (p .used + length s) before) (q .used) n,
-      ap (drop (q .used)) e ∙ drop-at (take (p .used) before ++ s) (drop (p .used + length s) before) (q .used) n ∙ ap (λ k. drop k before) (sym (w .end)))
+    length-append (take (p .used) before) s ∙ omega (arith, length-take-le (p .used) before (omega arith)) in (
+      ap (take (q .used)) e ∙ take-at (take (p .used) before ++ s) (drop (p .used + length s) before) (q .used) n,
+      ap (drop (q .used)) e ∙ drop-at (take (p .used) before ++ s) (drop (p .used + length s) before) (q .used) n ∙ ap (λ k. drop k before) (sym (w .end)),
+    )
 
 put-more : (s t : List ℕ) (p m q : Page) → Fits s p → Put s p m → Put t m q → Put (s ++ t) p q
 put-more s t p m q f w v =
@@ -51,14 +52,14 @@ put-more s t p m q f w v =
     let halves = front s p m f w in
     let n = length-append s t in
     let back : drop (m .used + length t) (bytes m) ≡ drop (start + length (s ++ t)) before =
-      sym (drop-drop (length t) (m .used) (bytes m)) ∙ ap (drop (length t)) (halves .1) ∙ drop-drop (length t) (m .used) before
-      ∙ ap (λ k. drop k before) (omega (arith, w .end)) in
+    sym (drop-drop (length t) (m .used) (bytes m)) ∙ ap (drop (length t)) (halves .1) ∙ drop-drop (length t) (m .used) before
+    ∙ ap (λ k. drop k before) (omega (arith, w .end)) in
     record {
       unfull = v .unfull;
       text = v .text ∙ ap (λ f. f ++ (t ++ drop (m .used + length t) (bytes m))) (halves .0)
-        ∙ ap (λ b. (take start before ++ s) ++ (t ++ b)) back
-        ∙ append-assoc (take start before) s (t ++ drop (start + length (s ++ t)) before)
-        ∙ ap (λ b. take start before ++ b) (sym (append-assoc s t (drop (start + length (s ++ t)) before)));
+          ∙ ap (λ b. (take start before ++ s) ++ (t ++ b)) back
+          ∙ append-assoc (take start before) s (t ++ drop (start + length (s ++ t)) before)
+          ∙ ap (λ b. take start before ++ b) (sym (append-assoc s t (drop (start + length (s ++ t)) before)));
       end = omega (arith, w .end, v .end);
     }
 
@@ -68,15 +69,15 @@ wrote-more s t {p} {m} {q} w v =
     let n = length-append s t in
     record {
       put = λ f.
-        let first : Fits s p = record { unfull = f .unfull; room = omega (arith, f .room) } in
-        let here = w .put first in
-        let second : Fits t m = record { unfull = here .unfull; room = omega (arith, f .room, here .end, w .long) } in
-        put-more s t p m q first here (v .put second);
+          let first : Fits s p = record { unfull = f .unfull; room = omega (arith, f .room) } in
+          let here = w .put first in
+          let second : Fits t m = record { unfull = here .unfull; room = omega (arith, f .room, here .end, w .long) } in
+          put-more s t p m q first here (v .put second);
       fits = λ h e.
-        let second = v .fits (w .sound h) e in
-        let first = w .fits h (second .unfull) in
-        let here = w .put first in
-        record { unfull = first .unfull; room = omega (arith, second .room, here .end, w .long) };
+          let second = v .fits (w .sound h) e in
+          let first = w .fits h (second .unfull) in
+          let here = w .put first in
+          record { unfull = first .unfull; room = omega (arith, second .room, here .end, w .long) };
       sound = λ h. v .sound (w .sound h);
       long = v .long ∙ w .long;
       lent = v .lent ∙ w .lent;
@@ -99,7 +100,7 @@ wrote-none p =
 
 -- the next of several texts
 pub wrote-next : {X : Type 0} (f : X → List ℕ) (xs : List X) (i : ℕ) (d : X) {p m q : Page} → i < length xs
-  → Wrote (joined f (take i xs)) p m → Wrote (f (getD xs i d)) m q → Wrote (joined f (take (i + 1) xs)) p q
+    → Wrote (joined f (take i xs)) p m → Wrote (f (getD xs i d)) m q → Wrote (joined f (take (i + 1) xs)) p q
 wrote-next f xs i d {p} {m} {q} h w v =
     let P : List ℕ → Type 0 = λ t. Wrote t p q in
     subst P (joined-more f [] (take i xs) (getD xs i d) ∙ ap (joined f) (sym (take-more xs i d h))) (wrote-more _ _ w v)

@@ -14,16 +14,45 @@ pub enum Choice {
 
 #[derive(Clone, Copy)]
 pub enum Command {
-    New { year: u32, month: u32, choice: Choice },
-    Enrol { number: u32, kind: u32, capacity: u32 },
-    Read { party: u32, slot: u32, power: i32 },
-    Post { party: u32, service: u32, slot: u32, x: i32, y: i32 },
-    PayIn { amount: u32 },
+    New {
+        year: u32,
+        month: u32,
+        choice: Choice,
+    },
+    Enrol {
+        number: u32,
+        kind: u32,
+        capacity: u32,
+    },
+    Read {
+        party: u32,
+        slot: u32,
+        power: i32,
+    },
+    Post {
+        party: u32,
+        service: u32,
+        slot: u32,
+        x: i32,
+        y: i32,
+    },
+    PayIn {
+        amount: u32,
+    },
     Publish,
-    Object { place: u32 },
-    Answer { place: u32, upheld: bool },
-    WhatIf { place: u32 },
-    AccountSums { party: u32 },
+    Object {
+        place: u32,
+    },
+    Answer {
+        place: u32,
+        upheld: bool,
+    },
+    WhatIf {
+        place: u32,
+    },
+    AccountSums {
+        party: u32,
+    },
     Settle,
 }
 

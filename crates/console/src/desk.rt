@@ -49,12 +49,25 @@ fn choose(stage: &Stage, command: Command, choice: Choice) -> Choice
     ensures { λ r. ⌜ r ≡ choice-for (now (stage .entry)) command choice ⌝ }
 {
     match (stage, command) {
-        (Stage::NoBook, Command::New { year: _, month: _, choice: new }) => new,
+        (
+            Stage::NoBook,
+            Command::New {
+                year: _,
+                month: _,
+                choice: new,
+            },
+        ) => new,
         _ => choice,
     }
 }
 
-fn serve_by(choice: Choice, stage: Stage, memory: &mut Memory, sheet: &mut [Bill], call: Call) -> (Stage, Answer)
+fn serve_by(
+    choice: Choice,
+    stage: Stage,
+    memory: &mut Memory,
+    sheet: &mut [Bill],
+    call: Call,
+) -> (Stage, Answer)
     ensures carries { λ r. ⌜ Carries (means-of choice) (room-of (length (now (sheet .entry))) (now (memory .entry))) (state-of stage (now (memory .entry))) call (r .1) (now (sheet .exit)) (state-of (r .0) (now (memory .exit))) ⌝ }
     ensures left { λ r. ⌜ Memory-left (r .1) (state-of (r .0) (now (memory .exit))) (now (memory .entry)) (now (memory .exit)) ⌝ }
     ensures sheet { λ r. ⌜ Sheet-left (r .1) (now (sheet .entry)) (now (sheet .exit)) ⌝ }
@@ -78,7 +91,13 @@ fn hear(desk: Desk, memory: &mut Memory, sheet: &mut [Bill], line: &[u8]) -> (De
 }
 
 // Gives the length of the answer's text on the page.
-pub fn answer_line(desk: Desk, memory: &mut Memory, sheet: &mut [Bill], line: &[u8], page: &mut [u8]) -> (Desk, Option<usize>)
+pub fn answer_line(
+    desk: Desk,
+    memory: &mut Memory,
+    sheet: &mut [Bill],
+    line: &[u8],
+    page: &mut [u8],
+) -> (Desk, Option<usize>)
     ensures { λ r. ⌜ Answering desk (now (memory .entry)) (now (sheet .entry)) (now (line .entry)) (now (page .entry)) (r .0) (r .1) (now (memory .exit)) (now (sheet .exit)) (now (page .exit)) ⌝ }
 {
     let (desk, answer) = hear(desk, memory, sheet, line);

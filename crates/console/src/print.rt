@@ -62,7 +62,11 @@ fn write_bills(page: &mut Page, bills: &[Bill])
 fn first_rows(sheet: &[Bill], rows: usize) -> &[Bill]
     ensures { λ r. ⌜ now r ≡ take rows (now (sheet .entry)) ⌝ }
 {
-    if rows < sheet.len() { &sheet[0..rows] } else { sheet }
+    if rows < sheet.len() {
+        &sheet[0..rows]
+    } else {
+        sheet
+    }
 }
 
 fn write_answer(page: &mut Page, answer: &Answer, sheet: &[Bill])
@@ -111,7 +115,11 @@ fn write_answer(page: &mut Page, answer: &Answer, sheet: &[Bill])
 pub fn print(answer: &Answer, sheet: &[Bill], bytes: &mut [u8]) -> Option<usize>
     ensures { λ r. ⌜ Printed (text (now (answer .entry)) (now (sheet .entry))) (now (bytes .entry)) r (now (bytes .exit)) ⌝ }
 {
-    let mut page = Page { bytes, used: 0, full: false };
+    let mut page = Page {
+        bytes,
+        used: 0,
+        full: false,
+    };
     write_answer(&mut page, answer, sheet);
     if page.full { None } else { Some(page.used) }
 }

@@ -7,8 +7,8 @@ ghost use Rattle.std.specs.Slices.{found};
 ghost use mathlib.Core.Path.{_≡_};
 ghost use Rattle.console.specs.Grammar.{Exactly};
 ghost use Rattle.console.specs.Format.{Reads, Took, TookDigit, isEmpty, numeral, unsigned, signed, new, enrol, meter, event, answer, body, parsed};
-use crate::command::Command;
 use crate::command::Choice;
+use crate::command::Command;
 
 // The longest number that a field may hold, in digits.
 const MOST_DIGITS: u32 = 9;
@@ -71,14 +71,22 @@ impl Reader<'_> {
             room -= 1;
             value = value * 10 + u32::from(digit);
         }
-        if room == MOST_DIGITS { None } else { Some(value) }
+        if room == MOST_DIGITS {
+            None
+        } else {
+            Some(value)
+        }
     }
 
     // A space and a number.
     fn unsigned(&mut self) -> Option<u32>
         ensures { λ r. ⌜ Reads unsigned (now (now (self .entry) .rest)) r (now (now (self .exit) .rest)) ⌝ }
     {
-        if self.take(b' ') { self.numeral() } else { None }
+        if self.take(b' ') {
+            self.numeral()
+        } else {
+            None
+        }
     }
 
     // A space and a number, with a minus before it or none.
@@ -103,7 +111,11 @@ impl Reader<'_> {
             2 => Choice::Second,
             _ => return None,
         };
-        Some(Command::New { year, month, choice })
+        Some(Command::New {
+            year,
+            month,
+            choice,
+        })
     }
 
     fn enrol(&mut self) -> Option<Command>
@@ -112,7 +124,11 @@ impl Reader<'_> {
         let number = self.unsigned()?;
         let kind = self.unsigned()?;
         let capacity = self.unsigned()?;
-        Some(Command::Enrol { number, kind, capacity })
+        Some(Command::Enrol {
+            number,
+            kind,
+            capacity,
+        })
     }
 
     fn meter(&mut self) -> Option<Command>
@@ -132,7 +148,13 @@ impl Reader<'_> {
         let slot = self.unsigned()?;
         let x = self.signed()?;
         let y = self.signed()?;
-        Some(Command::Post { party, service, slot, x, y })
+        Some(Command::Post {
+            party,
+            service,
+            slot,
+            x,
+            y,
+        })
     }
 
     fn answer(&mut self) -> Option<Command>
@@ -156,12 +178,20 @@ impl Reader<'_> {
             'E' => self.enrol(),
             'R' => self.meter(),
             'V' => self.event(),
-            'F' => Some(Command::PayIn { amount: self.unsigned()? }),
+            'F' => Some(Command::PayIn {
+                amount: self.unsigned()?,
+            }),
             'P' => Some(Command::Publish),
-            'O' => Some(Command::Object { place: self.unsigned()? }),
+            'O' => Some(Command::Object {
+                place: self.unsigned()?,
+            }),
             'A' => self.answer(),
-            'T' => Some(Command::WhatIf { place: self.unsigned()? }),
-            'Q' => Some(Command::AccountSums { party: self.unsigned()? }),
+            'T' => Some(Command::WhatIf {
+                place: self.unsigned()?,
+            }),
+            'Q' => Some(Command::AccountSums {
+                party: self.unsigned()?,
+            }),
             'S' => Some(Command::Settle),
             _ => None,
         }
@@ -184,5 +214,9 @@ fn read_line(line: &[u8]) -> Option<Command>
     let (letter, rest) = line.split_first()?;
     let mut reader = Reader { rest };
     let command = reader.body(*letter as char)?;
-    if reader.rest.is_empty() { Some(command) } else { None }
+    if reader.rest.is_empty() {
+        Some(command)
+    } else {
+        None
+    }
 }

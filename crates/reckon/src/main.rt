@@ -14,12 +14,22 @@ use std::io::Read;
 use std::io::Write;
 
 const WORDS: usize = 16_384;
+
 const PARTIES: usize = 64;
+
 const OBJECTIONS: usize = 16;
+
 const PAGE: usize = 8192;
 
 // Answers a line; the answer is whole on the page before any of it is written.
-fn serve<W: Write>(desk: Desk, memory: &mut Memory, sheet: &mut [Bill], line: &[u8], page: &mut [u8], output: &mut W) -> io::Result<Desk> {
+fn serve<W: Write>(
+    desk: Desk,
+    memory: &mut Memory,
+    sheet: &mut [Bill],
+    line: &[u8],
+    page: &mut [u8],
+    output: &mut W,
+) -> io::Result<Desk> {
     let (next, long) = answer_line(desk, memory, sheet, line, page);
     if let Some(length) = long {
         output.write_all(&page[0..length])?;
@@ -30,7 +40,10 @@ fn serve<W: Write>(desk: Desk, memory: &mut Memory, sheet: &mut [Bill], line: &[
 fn main(rt: LibcRuntime) -> io::Result<()> {
     let mut words = [0; WORDS];
     let mut lines = [Party::blank(); PARTIES];
-    let mut objections = [Objection { place: 0, waiting: false }; OBJECTIONS];
+    let mut objections = [Objection {
+        place: 0,
+        waiting: false,
+    }; OBJECTIONS];
     let mut memory = Memory::over(&mut words, &mut lines, &mut objections);
     let mut sheet = [Bill::blank(); PARTIES];
     let mut page = [0; PAGE];
@@ -47,7 +60,14 @@ fn main(rt: LibcRuntime) -> io::Result<()> {
         }
         for byte in &chunk[0..count] {
             if *byte == b'\n' {
-                desk = serve(desk, &mut memory, &mut sheet, line.bytes(), &mut page, &mut output)?;
+                desk = serve(
+                    desk,
+                    &mut memory,
+                    &mut sheet,
+                    line.bytes(),
+                    &mut page,
+                    &mut output,
+                )?;
                 line.clear();
             } else {
                 line.push(*byte);
@@ -55,7 +75,14 @@ fn main(rt: LibcRuntime) -> io::Result<()> {
         }
     }
     if !line.bytes().is_empty() {
-        let _ = serve(desk, &mut memory, &mut sheet, line.bytes(), &mut page, &mut output)?;
+        let _ = serve(
+            desk,
+            &mut memory,
+            &mut sheet,
+            line.bytes(),
+            &mut page,
+            &mut output,
+        )?;
     }
     output.flush()
 }

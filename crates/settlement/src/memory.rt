@@ -23,7 +23,11 @@ pub struct Memory<'a> {
 
 impl<'a> Memory<'a> {
     // Lends the memory of a new book: no line is in use yet.
-    pub fn over(words: &'a mut [u32], lines: &'a mut [Party], objections: &'a mut [Objection]) -> Memory<'a>
+    pub fn over(
+        words: &'a mut [u32],
+        lines: &'a mut [Party],
+        objections: &'a mut [Objection],
+    ) -> Memory<'a>
         ensures words { λ r. ⌜ now (r .words) ≡ now (words .entry) ⌝ }
         ensures journal { λ r. ⌜ name (r .words) ≡ name (words .entry) ⌝ }
         ensures roster { λ r. ⌜ held (r .roster) ≡ [] ⌝ }

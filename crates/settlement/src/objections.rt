@@ -43,13 +43,7 @@ pub(crate) fn pending(objections: &Objections, place: u32) -> Option<usize>
 {
     match objections.find(place) {
         Some(i) => match objections.get(i) {
-            Some(objection) => {
-                if objection.waiting {
-                    Some(i)
-                } else {
-                    None
-                }
-            }
+            Some(objection) => { if objection.waiting { Some(i) } else { None } }
             None => None,
         },
         None => None,

@@ -43,7 +43,12 @@ fn words_for(count: u32, event: &Event) -> Option<[u32; 3]>
 }
 
 impl Month {
-    pub(super) fn admit<P: Rule>(&self, memory: &Memory, rulebook: &P, event: &Event) -> Result<Admission, Refusal>
+    pub(super) fn admit<P: Rule>(
+        &self,
+        memory: &Memory,
+        rulebook: &P,
+        event: &Event,
+    ) -> Result<Admission, Refusal>
         ensures { λ r. ⌜ Admitting (meaning (now (rulebook .entry))) (room-of 0 (now (memory .entry))) (now (event .entry)) (book-of (now (self .entry)) (now (memory .entry))) r ⌝ }
     {
         let words = &*memory.words;

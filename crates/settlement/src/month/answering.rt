@@ -55,7 +55,13 @@ impl Month {
 
 impl PublishedMonth {
     // Upholding strikes the event, takes its amount off again and frees the objection's line; dismissing keeps the line.
-    pub fn answer<P: Rule>(&self, memory: &mut Memory, rulebook: &P, place: u32, upheld: bool) -> Result<(), Refusal>
+    pub fn answer<P: Rule>(
+        &self,
+        memory: &mut Memory,
+        rulebook: &P,
+        place: u32,
+        upheld: bool,
+    ) -> Result<(), Refusal>
         ensures does { λ r. ⌜ Answer-objection (meaning (now (rulebook .entry))) (room-of 0 (now (memory .entry))) place upheld (closing (now (self .entry)) (now (memory .entry))) r (closing (now (self .entry)) (now (memory .exit))) ⌝ }
         ensures left { λ r. ⌜ Left r (now (self .entry) .month .used) (now (memory .entry)) (now (memory .exit)) ⌝ }
     {

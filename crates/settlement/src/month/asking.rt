@@ -13,7 +13,12 @@ use rules::refusal::Refusal;
 use rules::rule::Rule;
 
 impl Month {
-    fn sums_of<P: Rule>(&self, memory: &Memory, rulebook: &P, party: u32) -> Result<[u64; 4], Refusal>
+    fn sums_of<P: Rule>(
+        &self,
+        memory: &Memory,
+        rulebook: &P,
+        party: u32,
+    ) -> Result<[u64; 4], Refusal>
         ensures { λ r. ⌜ Account-sums (meaning (now (rulebook .entry))) (room-of 0 (now (memory .entry))) party (book-of (now (self .entry)) (now (memory .entry))) r (book-of (now (self .entry)) (now (memory .entry))) ⌝ }
     {
         let words = &*memory.words;
@@ -25,13 +30,25 @@ impl Month {
         };
         let (_, line) = found;
         let mut sums = [0; 4];
-        account_sums(words, self.used, self.count, &line.enrolled(), rulebook, &mut sums);
+        account_sums(
+            words,
+            self.used,
+            self.count,
+            &line.enrolled(),
+            rulebook,
+            &mut sums,
+        );
         Ok(sums)
     }
 }
 
 impl OpenMonth {
-    pub fn account_sums<P: Rule>(&self, memory: &Memory, rulebook: &P, party: u32) -> Result<[u64; 4], Refusal>
+    pub fn account_sums<P: Rule>(
+        &self,
+        memory: &Memory,
+        rulebook: &P,
+        party: u32,
+    ) -> Result<[u64; 4], Refusal>
         ensures { λ r. ⌜ Account-sums (meaning (now (rulebook .entry))) (room-of 0 (now (memory .entry))) party (opened (now (self .entry)) (now (memory .entry))) r (opened (now (self .entry)) (now (memory .entry))) ⌝ }
     {
         self.month.sums_of(memory, rulebook, party)
@@ -39,7 +56,12 @@ impl OpenMonth {
 }
 
 impl PublishedMonth {
-    pub fn account_sums<P: Rule>(&self, memory: &Memory, rulebook: &P, party: u32) -> Result<[u64; 4], Refusal>
+    pub fn account_sums<P: Rule>(
+        &self,
+        memory: &Memory,
+        rulebook: &P,
+        party: u32,
+    ) -> Result<[u64; 4], Refusal>
         ensures { λ r. ⌜ Account-sums (meaning (now (rulebook .entry))) (room-of 0 (now (memory .entry))) party (closing (now (self .entry)) (now (memory .entry))) r (closing (now (self .entry)) (now (memory .entry))) ⌝ }
     {
         self.month.sums_of(memory, rulebook, party)

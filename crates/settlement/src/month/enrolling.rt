@@ -13,7 +13,13 @@ use rules::refusal::Refusal;
 
 impl OpenMonth {
     // The kind is given by its number, 1 to 7.
-    pub fn enrol(&self, memory: &mut Memory, number: u32, kind: u32, capacity: u32) -> Result<(), Refusal>
+    pub fn enrol(
+        &self,
+        memory: &mut Memory,
+        number: u32,
+        kind: u32,
+        capacity: u32,
+    ) -> Result<(), Refusal>
         ensures does { λ r. ⌜ Enrol (room-of 0 (now (memory .entry))) number kind capacity (opened (now (self .entry)) (now (memory .entry))) r (opened (now (self .entry)) (now (memory .exit))) ⌝ }
         ensures left { λ r. ⌜ Left r (now (self .entry) .month .used) (now (memory .entry)) (now (memory .exit)) ⌝ }
     {

@@ -13,7 +13,12 @@ use rules::refusal::Refusal;
 use rules::rule::Rule;
 
 impl OpenMonth {
-    pub fn post<P: Rule>(&mut self, memory: &mut Memory, rulebook: &P, event: &Event) -> Result<Posted, Refusal>
+    pub fn post<P: Rule>(
+        &mut self,
+        memory: &mut Memory,
+        rulebook: &P,
+        event: &Event,
+    ) -> Result<Posted, Refusal>
         ensures does { λ r. ⌜ Post (meaning (now (rulebook .entry))) (room-of 0 (now (memory .entry))) (now (event .entry)) (opened (now (self .entry)) (now (memory .entry))) r (opened (now (self .exit)) (now (memory .exit))) ⌝ }
         ensures left { λ r. ⌜ Left r (now (self .exit) .month .used) (now (memory .entry)) (now (memory .exit)) ⌝ }
     {

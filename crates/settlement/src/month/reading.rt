@@ -24,7 +24,9 @@ fn is_unreadable(count: u32, kind: Kind, reading: &Reading) -> bool
     ensures slot { λ r. ⌜ (r ≡ false → now (reading .entry) .slot < 8928) ⌝ }
     ensures size { λ r. ⌜ (r ≡ false → natAbs (now (reading .entry) .power) ≤ 4_000_000) ⌝ }
 {
-    reading.slot >= slots_in(count) || reading.power.unsigned_abs() > MOST_POWER || (reading.power < 0 && !kind.may_draw())
+    reading.slot >= slots_in(count)
+        || reading.power.unsigned_abs() > MOST_POWER
+        || (reading.power < 0 && !kind.may_draw())
 }
 
 impl OpenMonth {

@@ -78,7 +78,11 @@ impl Month {
         ensures rolls { λ r. ⌜ book-of r (now (memory .exit)) ≡ rolled left (book-of self (now (memory .entry))) ⌝ }
         ensures beyond { λ r. ⌜ Beyond (r .used) (now (memory .entry)) (now (memory .exit)) ⌝ }
     {
-        let Month { count, used, fund: _ } = self;
+        let Month {
+            count,
+            used,
+            fund: _,
+        } = self;
         let _ = append(memory.words, used, &[word(MONTH_END, count)]);
         memory.objections.clear();
         renew(&mut memory.roster);

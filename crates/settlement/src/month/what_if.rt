@@ -12,7 +12,12 @@ use rules::rule::Rule;
 
 impl PublishedMonth {
     // The journal's word is changed while the sums are taken, and put back.
-    pub fn what_if<P: Rule>(&self, memory: &mut Memory, rulebook: &P, place: u32) -> Result<[u64; 4], Refusal>
+    pub fn what_if<P: Rule>(
+        &self,
+        memory: &mut Memory,
+        rulebook: &P,
+        place: u32,
+    ) -> Result<[u64; 4], Refusal>
         ensures does { λ r. ⌜ What-if (meaning (now (rulebook .entry))) (room-of 0 (now (memory .entry))) place (closing (now (self .entry)) (now (memory .entry))) r (closing (now (self .entry)) (now (memory .exit))) ⌝ }
         ensures same { λ _. ⌜ now (memory .exit) ≡ now (memory .entry) ⌝ }
     {
@@ -21,6 +26,13 @@ impl PublishedMonth {
             Ok(party) => party,
             Err(refusal) => return Err(refusal),
         };
-        Ok(sums_if_struck(memory.words, self.month.used, place, self.month.count, &party, rulebook))
+        Ok(sums_if_struck(
+            memory.words,
+            self.month.used,
+            place,
+            self.month.count,
+            &party,
+            rulebook,
+        ))
     }
 }

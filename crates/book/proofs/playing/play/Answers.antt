@@ -28,15 +28,16 @@ loop-i-again g c =
     let below : i < min (length calls) (length (c .args .log .now)) = omega (arith, c .loop-i-test .taken, c .min-i-end .ensures) in
     let in-log : i < length log = omega (arith, below, long) in
     let in-calls : i < length calls = omega (arith, below) in
-    let one-more = more (far .plays) (did .served) in
-    ( record {
+    let one-more = more (far .plays) (did .served) in (
+      record {
         trace = did .served .added ++ far .trace;
         plays = subst (λ l. Plays means (take (i + 1) calls) l (did .served .added ++ far .trace) after) (sym (take-more-set log i answer in-log))
             (subst (λ k. Plays means k (take i log ++ (answer ∷ [])) (did .served .added ++ far .trace) after) (sym (take-more calls i _ in-calls)) one-more);
         run = did .carried .run (far .trace) (far .run);
       },
       length-set log i answer ∙ long,
-      drop-set-lt (i + 1) log i answer (omega arith) ∙ (sym (drop-drop 1 i log) ∙ (ap (drop 1) (c .loop-i .inv .2) ∙ drop-drop 1 i (c .args .log .now))) )
+      drop-set-lt (i + 1) log i answer (omega arith) ∙ (sym (drop-drop 1 i log) ∙ (ap (drop 1) (c .loop-i .inv .2) ∙ drop-drop 1 i (c .args .log .now))),
+    )
 
 pub returns : need.returns
 returns g c =

@@ -23,17 +23,18 @@ loop-i-again c =
     let next = c .match-get .roster in
     let i = c .loop-i .i in
     elim (c .match-get .came) [
-      in-Some w ↦
-        let at = ap lined (w .in-Some .ensures tt) ∙ nth-lined (held current) i in
-        let step : lines-of next ≡ set (lines-of current) i (line-of (w .renewed .result)) = ap lines-of (w .roster-is) ∙ w .put .ensures .lines in
-        let kept : Kept current next = subst (λ r. Kept current r) (sym (w .roster-is)) (w .put .ensures .kept) in
-        ( one-more (lines-of first) (lines-of current) (lines-of next) i _ _ at (w .renewed .ensures) step (c .loop-i .inv .0)
-        , kept-twice first current next (c .loop-i .inv .2) (c .loop-i .inv .1) kept
-        , same-count current next i _ step ∙ c .loop-i .inv .2 )
-    | in-rest w ↦
-        let at = ap lined (w .in-rest .ensures tt) ∙ nth-lined (held current) i in
-        subst (λ (r : Register Party 64). So-far (lines-of first) (lines-of r) (i + 1) × Kept first r × (count r ≡ count first)) (sym (w .roster-is))
-        ( none-more (lines-of first) (lines-of current) i at (c .loop-i .inv .0) , c .loop-i .inv .1 , c .loop-i .inv .2 )
+      | in-Some w ↦
+          let at = ap lined (w .in-Some .ensures tt) ∙ nth-lined (held current) i in
+          let step : lines-of next ≡ set (lines-of current) i (line-of (w .renewed .result)) = ap lines-of (w .roster-is) ∙ w .put .ensures .lines in
+          let kept : Kept current next = subst (λ r. Kept current r) (sym (w .roster-is)) (w .put .ensures .kept) in (
+            one-more (lines-of first) (lines-of current) (lines-of next) i _ _ at (w .renewed .ensures) step (c .loop-i .inv .0),
+            kept-twice first current next (c .loop-i .inv .2) (c .loop-i .inv .1) kept,
+            same-count current next i _ step ∙ c .loop-i .inv .2,
+          )
+      | in-rest w ↦
+          let at = ap lined (w .in-rest .ensures tt) ∙ nth-lined (held current) i in
+          subst (λ (r : Register Party 64). So-far (lines-of first) (lines-of r) (i + 1) × Kept first r × (count r ≡ count first)) (sym (w .roster-is))
+          (none-more (lines-of first) (lines-of current) i at (c .loop-i .inv .0), c .loop-i .inv .1, c .loop-i .inv .2)
     ]
 
 pub returns : need.returns
