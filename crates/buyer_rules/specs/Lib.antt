@@ -1,2 +1,3 @@
 pub mod Bills
 pub mod Voltage
+pub mod Month

@@ -1,5 +1,6 @@
 // A buyer's own rule, written against the public trait only, layered with the rules of the part.
-pub mod billing;
+pub mod charging;
+pub mod month;
 pub mod rulebook;
 #[cfg(test)]
 mod tests;

@@ -1,5 +1,5 @@
 // The buyer's rule alone, in his rulebook, and billed.
-use crate::billing::billed;
+use crate::charging::billed;
 use crate::rulebook::ask_with_voltage;
 use crate::voltage_control::VoltageControl;
 use crate::voltage_control::VoltageControlRule;
