@@ -18,6 +18,9 @@ pub record Begun (year month : ℕ) (m : OpenMonth) (before after : Memory) : Ty
   pub free : first-of (new-checks year month) ≡ None
   pub book : opened m after ≡ new-book (count year month)
   pub beyond : Beyond 0 before after
+  -- lines that were in use keep what they held
+  pub roster-lines : after .roster .lines ≡ before .roster .lines
+  pub objection-lines : after .objections .lines ≡ before .objections .lines
 
 -- No such month.
 pub record Not-begun (year month : ℕ) (e : Refusal) (before after : Memory) : Type 0 where

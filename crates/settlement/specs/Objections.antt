@@ -8,8 +8,11 @@ use lib.ListN.{length, set}
 use Rattle.std.specs.Holes.{removed}
 use Rattle.std.specs.declared.option.Option.{Option}
 use Rattle.std.specs.declared.option.Option.the-variants.{Some, None}
+use Rattle.std.specs.declared.result.Result.{Result}
+use Rattle.std.specs.declared.result.Result.the-variants.{Ok, Err}
+use Rattle.rules.specs.declared.refusal.Refusal.{Refusal}
 use Rattle.register.specs.declared.Register.{Register}
-use Rattle.register.specs.Held.{held, room}
+use Rattle.register.specs.Held.{held, room, Laid-by}
 use Rattle.settlement.specs.declared.objection.Objection.{Objection}
 use Rattle.settlement.specs.Registers as by
 use Rattle.settlement.specs.Book.{place-of}
@@ -38,3 +41,9 @@ pub record Waits-at (place : ℕ) (os : List Objection) (i : ℕ) : Type 0 where
 abbrev pub Pending : ℕ → List Objection → Option ℕ → Type 0
 Pending place os None = waits (by.found place-of place os) ≡ false
 Pending place os (Some i) = Waits-at place os i
+
+-- What upholding leaves of the freed line: it lies right past the lines in use. Dismissing frees none.
+abbrev pub Freed : Bool → ℕ → Result (Unit {0}) Refusal → Register Objection 16 → Register Objection 16 → Type 0
+Freed true place (Ok _) before after = (i : ℕ) × Waits-at place (held before) i × Laid-by i before after
+Freed true place (Err _) before after = after ≡ before
+Freed false place r before after = Unit {0}

@@ -31,6 +31,8 @@ pub record Was-settled (month : PublishedMonth) (m : Memory) (sheet : List Bill)
   pub rows-beyond : drop (t .rows) sheet′ ≡ drop (t .rows) sheet
   pub rows-long : length sheet′ ≡ length sheet
   pub beyond : Beyond (next .month .used) m m′
+  -- the lines of the objections, none of which is in use any more, keep what they held
+  pub objection-lines : m′ .objections .lines ≡ m .objections .lines
 
 -- It is refused, and everything is as before.
 pub record Was-kept (month : PublishedMonth) (m : Memory) (sheet : List Bill) (kept : PublishedMonth) (e : Refusal) (m′ : Memory) (sheet′ : List Bill) : Type 0 where

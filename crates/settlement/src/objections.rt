@@ -3,7 +3,7 @@ ghost use mathlib.Core.Path.{_≡_};
 ghost use mathlib.Core.Bool.{false};
 ghost use lib.ListN.{set};
 ghost use Rattle.std.specs.Holes.{removed};
-ghost use Rattle.register.specs.Held.{held, Kept};
+ghost use Rattle.register.specs.Held.{held, Kept, Laid-by};
 ghost use Rattle.settlement.specs.Registers.{has};
 ghost use Rattle.settlement.specs.Book.{place-of};
 ghost use Rattle.settlement.specs.Objections.{Lodging, Pending};
@@ -62,9 +62,10 @@ pub(crate) fn dismiss(objections: &mut Objections, i: usize, place: u32)
     objections.replace(i, objection);
 }
 
-// Frees the line.
+// Frees the line, which then lies right past those in use.
 pub(crate) fn free(objections: &mut Objections, i: usize)
     ensures lines { λ _. ⌜ held (now (objections .exit)) ≡ removed (held (now (objections .entry))) i ⌝ }
+    ensures past { λ _. ⌜ Laid-by i (now (objections .entry)) (now (objections .exit)) ⌝ }
     ensures kept { λ _. ⌜ Kept (now (objections .entry)) (now (objections .exit)) ⌝ }
 {
     objections.remove(i);

@@ -3,6 +3,7 @@ ghost use Prim.Native.Nat.{_≤_};
 ghost use lib.ListN.{length};
 ghost use Rattle.settlement.specs.Objecting.{Answer-objection};
 ghost use Rattle.settlement.specs.Admitting.{Refunding};
+ghost use Rattle.settlement.specs.Objections.{Freed};
 ghost use Rattle.settlement.specs.Lent.{book-of, closing, room-of, Left};
 use super::Month;
 use super::PublishedMonth;
@@ -64,6 +65,7 @@ impl PublishedMonth {
     ) -> Result<(), Refusal>
         ensures does { λ r. ⌜ Answer-objection (meaning (now (rulebook .entry))) (room-of 0 (now (memory .entry))) place upheld (closing (now (self .entry)) (now (memory .entry))) r (closing (now (self .entry)) (now (memory .exit))) ⌝ }
         ensures left { λ r. ⌜ Left r (now (self .entry) .month .used) (now (memory .entry)) (now (memory .exit)) ⌝ }
+        ensures freed { λ r. ⌜ Freed upheld place r (now (memory .entry) .objections) (now (memory .exit) .objections) ⌝ }
     {
         if memory.words.len() < self.month.used {
             return Err(Refusal::OutOfStep);

@@ -77,6 +77,7 @@ impl Month {
         requires held { ⌜ left ≤ 40_000_000_000 ⌝ }
         ensures rolls { λ r. ⌜ book-of r (now (memory .exit)) ≡ rolled left (book-of self (now (memory .entry))) ⌝ }
         ensures beyond { λ r. ⌜ Beyond (r .used) (now (memory .entry)) (now (memory .exit)) ⌝ }
+        ensures cleared { λ r. ⌜ now (memory .exit) .objections .lines ≡ now (memory .entry) .objections .lines ⌝ }
     {
         let Month {
             count,
