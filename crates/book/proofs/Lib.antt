@@ -2,7 +2,6 @@ pub mod Rosters
 pub mod Strikes
 pub mod Wording
 pub mod Limiting
-pub mod Shares
 pub mod Columns
 pub mod Scanning
 pub mod Keeping
