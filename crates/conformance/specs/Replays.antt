@@ -8,7 +8,7 @@ use lib.ListN.{length, take}
 use Rattle.std.specs.Options.{Cases}
 use Rattle.std.specs.declared.option.Option.{Option}
 use Rattle.std.specs.declared.option.Option.the-variants.{Some, None}
-use Rattle.records.specs.Held.{held}
+use Rattle.register.specs.Held.{held}
 use Rattle.billing.specs.declared.bill.Bill.{Bill}
 use Rattle.settlement.specs.Lent.{room-of}
 use Rattle.settlement.specs.declared.memory.Memory.{Memory}
