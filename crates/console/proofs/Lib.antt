@@ -3,4 +3,7 @@ pub mod GrammarFields
 pub mod GrammarLines
 pub mod Pages
 pub mod Places
+pub mod Sizes
+pub mod Bounded
+pub mod Reached
 pub mod Desks

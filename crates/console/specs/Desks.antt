@@ -1,8 +1,10 @@
 -- A line at the desk: which command it is, what the book answers, and which run that makes. Assumes nothing.
 use mathlib.Core.Path.{_≡_}
+use mathlib.Core.Bool.{true}
 use mathlib.Core.List.{List, _++_}
-use Prim.Native.Nat.{ℕ}
+use Prim.Native.Nat.{ℕ, _≤_}
 use lib.ListN.{length}
+use Rattle.std.specs.Options.{isSome}
 use Rattle.std.specs.declared.option.Option.{Option}
 use Rattle.std.specs.declared.option.Option.the-variants.{Some, None}
 use Rattle.rules.specs.Answers.{Rulebook}
@@ -89,3 +91,5 @@ pub record Answering (d : Desk) (m : Memory) (s : List Bill) (line page : List �
   pub answer : Answer
   pub heard : Hearing d m s line answer d′ m′ s′
   pub printed : Printed (text answer s′) page long page′
+  -- whatever run led here, a page of 8,192 bytes has room for the answer
+  pub room : (t : Trace) → Run (means-of (d .choice)) t (state-at d m) → 8192 ≤ length page → isSome long ≡ true
