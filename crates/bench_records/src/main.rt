@@ -1,4 +1,6 @@
 // A benchmark: 20,000 scans of a full journal of 16,384 words. It prints the scans and the events that they found.
+#![tactic(auto)]
+
 ghost use Rattle.std.specs.Prelude.{Ok};
 ghost use Rattle.rules.specs.declared.account.Account.TheVariants.{First};
 ghost use Rattle.std.proofs.Common.{rules};

@@ -1,4 +1,6 @@
 // Party lines, their weights, and the bills of a month.
+#![tactic(auto)]
+
 pub mod bill;
 pub mod party;
 pub mod reading;

@@ -1,32 +1,30 @@
 -- Every run keeps the book within its limits, call by call. Assumes nothing.
-use Rattle.std.proofs.Common.{◌≡◌, ℕ, suc, ◌+◌, ◌-◌, ◌*◌, ◌<◌, ◌≤◌, min, Bool, true, false, not, ◌&&◌, ◌||◌, ltb, leb, List, [], ◌∷◌, ◌++◌, map, length, get_or, nat_abs, is_some, Some, None, Ok, Err, Option, sym, refl, ap, ◌∙◌, subst, arith}
-use Rattle.std.proofs.lemmas.Bool.{ltb-false, leb-true, leb-false, or_parts, and_parts, not-false, both_ways}
+use Rattle.std.proofs.Common.{◌≡◌, ℕ, ◌+◌, ◌<◌, ◌≤◌, min, true, false, ◌&&◌, leb, [], ◌∷◌, length, get_or, is_some, Some, None, Option, sym, refl, ap, ◌∙◌, subst, arith}
+use Rattle.std.proofs.lemmas.Bool.{ltb-false, leb-true, leb-false, and_parts, not-false, both_ways}
 use Rattle.std.proofs.ByRecursion.{All-append}
 use Rattle.std.proofs.lemmas.List.{length-append, length-set, length-map}
 use Rattle.std.specs.List.{AllByRecursion as All}
 use Rattle.rules.specs.Answers.{Rulebook}
-use Rattle.rules.specs.declared.sums.Sums.{Sums}
-use Rattle.rules.specs.Sums.{◌plus◌}
-use Rattle.rules.specs.Calendar.{slots, last_month, count}
+use Rattle.rules.specs.Calendar.{last_month, count}
 use Rattle.settlement.specs.Registers.{found, changed}
 use Rattle.records.specs.declared.enrolment.Enrolment.{Enrolment}
 use Rattle.billing.specs.declared.reading.Reading.{Reading}
 use Rattle.records.specs.declared.event.Event.{Event}
 use Rattle.records.specs.Asking.{facts}
 use Rattle.records.specs.Words.{word, content, event_words}
-use Rattle.records.specs.Journal.{event_at, struck}
+use Rattle.records.specs.Journal.{event_at}
 use Rattle.billing.specs.Lines.{Line, blank, number, take_reading, fits}
 use Rattle.rules.specs.Kinds.{kind_of}
 use Rattle.settlement.specs.Book.{place_of, Book, new_book, Room}
-use Rattle.billing.specs.Bills.{sums_over, dues_of}
+use Rattle.billing.specs.Bills.{sums_over}
 use Rattle.settlement.specs.Checks.{first_of}
 use Rattle.settlement.specs.Enrolling.{new_checks, enrol_checks, enrol, read_checks, cannot_take, has_passed, read}
-use Rattle.settlement.specs.Posting.{asked, answer_to, overflows, is_refused, post_checks, charge, post, pay_in_checks, pay_in}
+use Rattle.settlement.specs.Posting.{asked, overflows, is_refused, post_checks, charge, post, pay_in_checks, pay_in}
 use Rattle.settlement.specs.Objecting.{object_checks, object, take_off, uphold, dismiss}
 use Rattle.settlement.specs.Settling.{settle_checks, settle}
-use Rattle.book.specs.Limits.{PartyFits, SumsFit, LineFits, BookFits}
+use Rattle.book.specs.Limits.{PartyFits, SumsFit}
 use Rattle.book.proofs.Wording.{Fits}
-use Rattle.book.proofs.Limiting.{all_entered, all_changed, length_entered, length_changed, length_removed, all_set, days_within, allowed, Framed, framed_reading, framed_blank, Below, sums_charged, sums_taken, sums_read, sums_entered, sums_blank, plus_fits, words_fit}
+use Rattle.book.proofs.Limiting.{all_entered, all_changed, length_entered, length_changed, length_removed, all_set, days_within, allowed, Framed, framed_reading, framed_blank, sums_charged, sums_taken, sums_read, sums_entered, sums_blank, plus_fits, words_fit}
 use Rattle.book.proofs.Keeping.{clear}
 
 pub record Held (b : Book) : Type 0 where

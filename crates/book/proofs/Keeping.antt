@@ -1,32 +1,30 @@
 -- What the book and the history of its run have in common, and that every call keeps it. Assumes nothing.
-use Rattle.std.proofs.Common.{◌≡◌, ℕ, zero, suc, ◌+◌, ◌-◌, ◌*◌, ◌/◌, ◌%◌, ◌<◌, ◌≤◌, Bool, true, false, cond, not, ◌&&◌, ◌||◌, eqb, ltb, leb, ◌⊎◌, List, [], ◌∷◌, ◌++◌, map, length, get_or, set, ℤ, pos, nat_abs, Some, None, Ok, Err, Option, Result, sym, refl, ap, ◌∙◌, subst, ap₂, inl, inr, arith}
-use Rattle.std.proofs.lemmas.Bool.{eqb-true, eqb-false, eq-eqb, ne_eqb, ltb-false, leb-true, leb-false, cases_eq, or_parts, or_cases, and_parts, not-true, not-false, both_ways}
+use Rattle.std.proofs.Common.{◌≡◌, ℕ, ◌+◌, ◌<◌, ◌≤◌, Bool, true, false, cond, eqb, leb, ◌⊎◌, List, [], ◌∷◌, ◌++◌, map, length, get_or, nat_abs, Some, None, Option, sym, refl, ap, ◌∙◌, subst, ap₂, inl, inr, arith}
+use Rattle.std.proofs.lemmas.Bool.{eqb-true, eq-eqb, ne_eqb, leb-true, leb-false, cases_eq, or_parts, or_cases, and_parts, not-false, both_ways}
 use Rattle.std.proofs.lemmas.List.{length-append, length-set}
 use Rattle.rules.specs.declared.refusal.Refusal.{Refusal}
 use Rattle.rules.specs.Answers.{Answer, Rulebook}
-use Rattle.rules.specs.declared.sums.Sums.{Sums}
 use Rattle.rules.specs.Sums.{nothing, ◌plus◌, ◌less◌}
-use Rattle.rules.specs.Calendar.{slots, last_month}
-use Rattle.settlement.specs.Registers.{has, found, entered, changed, by_number}
+use Rattle.rules.specs.Calendar.{last_month}
+use Rattle.settlement.specs.Registers.{has, entered, changed, by_number}
 use Rattle.register.specs.Numbered.{Rising}
 use Rattle.records.specs.declared.enrolment.Enrolment.{Enrolment}
 use Rattle.billing.specs.declared.reading.Reading.{Reading}
-use Rattle.billing.specs.Lines.{runs, Line, blank, number, take_reading}
-use Rattle.records.specs.declared.event.Event.{Event}
+use Rattle.billing.specs.Lines.{runs, blank, number, take_reading}
 use Rattle.records.specs.Asking.{facts}
 use Rattle.records.specs.Words.{kind, content, word, event_words}
-use Rattle.records.specs.Journal.{event_at, month_start, this_month, standing_at, kind_at, stands, struck}
+use Rattle.records.specs.Journal.{event_at, month_start, this_month, standing_at, kind_at, struck}
 use Rattle.settlement.specs.Asking.{what_if_checks}
 use Rattle.settlement.specs.Book.{Book, Room}
 use Rattle.settlement.specs.Settling.{Reckoning, settle_checks, settle, Settles}
-use Rattle.billing.specs.Bills.{dues_of, lacks_weight}
+use Rattle.billing.specs.Bills.{lacks_weight}
 use Rattle.settlement.specs.Checks.{Check, first_of}
 use Rattle.settlement.specs.Enrolling.{enrol_checks, enrol, read_checks, read}
 use Rattle.settlement.specs.Posting.{post_checks, charge, post, pay_in_checks, pay_in}
 use Rattle.settlement.specs.Objecting.{object, can_strike, answer_checks, take_off, uphold, dismiss}
 use Rattle.book.specs.History.{Placed, without, worth_of, magnitude, running_slots, passed, line_of}
-use Rattle.book.proofs.Rosters.{drawn, rising_entered, has_entered, has_drawn, entered_drawn, changed_drawn}
-use Rattle.book.proofs.Strikes.{same_sums, event_with, Falling, falling_more, falling_without, worth_struck, worth_other}
+use Rattle.book.proofs.Rosters.{rising_entered, has_entered, has_drawn, entered_drawn, changed_drawn}
+use Rattle.book.proofs.Strikes.{same_sums, Falling, falling_more, falling_without, worth_struck, worth_other}
 use Rattle.book.proofs.Limiting.{days_within, postable}
 use Rattle.book.proofs.Scanning.{scanned_post, scanned_push, scanned_end, scanned_strike, by_word}
 use Rattle.book.proofs.Wording.{Fits, placed_at, At, Located, located_push, located_end, located_post, located_strike}

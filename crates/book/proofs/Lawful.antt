@@ -1,5 +1,5 @@
 -- Every run is lawful, by induction over the run. Assumes nothing.
-use Rattle.std.proofs.Common.{◌≡◌, ℕ, suc, ◌+◌, ◌-◌, ◌≤◌, Bool, true, false, cond, eqb, ◌⊎◌, List, [], ◌∷◌, ◌++◌, map, length, get_or, ℤ, pos, ◌+ℤ◌, ◌-ℤ◌, is_some, Some, None, Ok, Err, Option, sym, refl, ap, ◌∙◌, subst, ap₂, subst₂, inl, inr, arith}
+use Rattle.std.proofs.Common.{◌≡◌, ℕ, suc, ◌≤◌, Bool, true, false, cond, eqb, ◌⊎◌, List, [], ◌∷◌, ◌++◌, map, length, get_or, ℤ, pos, ◌+ℤ◌, ◌-ℤ◌, is_some, Some, None, Ok, Err, Option, sym, refl, ap, ◌∙◌, subst, ap₂, subst₂, inl, inr, arith}
 use Rattle.std.specs.List.{ContainsAt as Has}
 use Rattle.std.proofs.lemmas.List.Sorted.{IsPermutation-sym}
 use Rattle.std.proofs.ByRecursion.{has_shuffled}
@@ -12,7 +12,7 @@ use Rattle.rules.specs.Kinds.{kind_of}
 use Rattle.rules.specs.declared.kind.Kind.{Kind}
 use Rattle.rules.specs.declared.account.Account.{Account}
 use Rattle.records.specs.declared.enrolment.Enrolment.{Enrolment}
-use Rattle.settlement.specs.Registers.{by_number, found}
+use Rattle.settlement.specs.Registers.{found}
 use Rattle.billing.specs.declared.reading.Reading.{Reading}
 use Rattle.records.specs.declared.event.Event.{Event}
 use Rattle.records.specs.Asking.{facts}
@@ -29,13 +29,13 @@ use Rattle.billing.specs.Sharing.{Fair}
 use Rattle.billing.specs.Weights.{Weights}
 use Rattle.billing.specs.declared.bill.Bill.{Bill}
 use Rattle.settlement.specs.Settling.{Reckoning, Settles}
-use Rattle.billing.specs.Bills.{Dues, dues, dues_of, lacks_weight, bills_of, pay_of, line_weights, net_sum}
+use Rattle.billing.specs.Bills.{dues, dues_of, lacks_weight, bills_of, pay_of, line_weights, net_sum}
 use Rattle.settlement.specs.declared.posted.Posted.{Posted}
 use Rattle.settlement.specs.Posting.{asked, answer_to}
-use Rattle.book.specs.Runs.{Entry, Enrol, Post, PayIn, WhatIf, AccountSums, Settle, Trace, Step, new, not_new, enrol, read, post, pay_in, account_sums, publish, object, answer, what_if, account_sums_then, settle, Run, start, next}
-use Rattle.book.specs.History.{Placed, News, news, enrolled_as, month_with, enrolments_with, readings_with, standing_with, journal_with, money_with, bills_by, paid_in_with, month, enrolments, readings, without, standing, paid_in, money, bills, journal, worth_of, magnitude, running_slots, passed, line_of, sorted}
+use Rattle.book.specs.Runs.{Entry, Post, PayIn, WhatIf, AccountSums, Settle, Trace, new, not_new, enrol, read, post, pay_in, account_sums, publish, object, answer, what_if, account_sums_then, settle, Run, start, next}
+use Rattle.book.specs.History.{Placed, enrolled_as, month_with, enrolments_with, readings_with, standing_with, journal_with, money_with, bills_by, paid_in_with, month, enrolments, readings, without, standing, paid_in, money, bills, journal, worth_of, magnitude, running_slots, passed, line_of, sorted}
 use Rattle.book.specs.Limits.{BookFits, StateFits}
-use Rattle.book.specs.Laws.{WithinLimits, sums_of, weights, Rest, FundPays, net_due, LawfulSettling, LawfulPosting, LawfulSums, LawfulWhatIf, Lawful, RunsWithinLimits, RunsLawful}
+use Rattle.book.specs.Laws.{WithinLimits, sums_of, weights, FundPays, net_due, LawfulSettling, LawfulPosting, LawfulSums, LawfulWhatIf, RunsWithinLimits, RunsLawful}
 use Rattle.book.specs.Serving.{Steps}
 use Rattle.book.proofs.Rosters.{rising_drawn, shuffled_sorted, found_drawn}
 use Rattle.book.proofs.Limiting.{sums_each, lines_fit}
@@ -43,7 +43,7 @@ use Rattle.book.proofs.Fitting.{Held, held_new, held_enrol, held_read, held_post
 use Rattle.book.proofs.Strikes.{event_with}
 use Rattle.book.proofs.Scanning.{scanned_strike, by_word, by_word_is}
 use Rattle.book.proofs.Wording.{placed_at}
-use Rattle.book.proofs.Columns.{column_number, column_charge, column_pay, column_net, Closed, closed}
+use Rattle.book.proofs.Columns.{column_number, column_charge, column_pay, column_net, closed}
 use Rattle.book.proofs.Keeping.{clear, Inv, map_map, weighed, stood, fits_post, kept_enrol, kept_read, kept_post, kept_pay_in, kept_object, kept_dismiss, kept_uphold, kept_settle}
 
 abbrev Holds : Rulebook → Trace → Book → Type 0

@@ -1,33 +1,26 @@
 -- Every call keeps the book within its limits. Assumes nothing.
-use Rattle.std.proofs.Common.{◌≡◌, ℕ, zero, suc, ◌+◌, ◌-◌, ◌*◌, ◌/◌, ◌%◌, ◌<◌, ◌≤◌, min, Bool, true, false, cond, not, ◌&&◌, ◌||◌, eqb, ltb, leb, ◌⊎◌, List, [], ◌∷◌, ◌++◌, map, length, get_or, set, ℤ, pos, negsuc, nat_abs, Some, None, Ok, Err, Option, sym, refl, ap, ◌∙◌, subst, ap₂, inl, inr, arith}
-use Rattle.std.proofs.lemmas.Bool.{eqb-true, eqb-false, ltb-false, leb-true, leb-false, or_parts, and_parts, not-false}
-use Rattle.std.proofs.ByRecursion.{All-append}
-use Rattle.std.proofs.lemmas.List.{length-append, length-set, length-map}
+use Rattle.std.proofs.Common.{◌≡◌, ℕ, zero, suc, ◌+◌, ◌*◌, ◌/◌, ◌%◌, ◌<◌, ◌≤◌, Bool, true, false, cond, ◌&&◌, eqb, ltb, leb, List, [], ◌∷◌, map, length, get_or, set, ℤ, pos, negsuc, nat_abs, Some, Ok, Err, refl, ap, ◌∙◌, subst, arith}
+use Rattle.std.proofs.lemmas.Bool.{eqb-true, ltb-false, leb-false, or_parts}
 use Rattle.std.specs.List.{AllByRecursion as All}
 use Rattle.rules.specs.Answers.{Answer, Rulebook}
 use Rattle.rules.specs.declared.account.Account.{Account}
 use Rattle.rules.specs.declared.account.Account.TheVariants.{Charges, First, Second, Third}
 use Rattle.rules.specs.declared.sums.Sums.{Sums}
-use Rattle.rules.specs.Sums.{nothing, account, put, ◌plus◌, ◌less◌}
+use Rattle.rules.specs.Sums.{nothing, account, ◌plus◌}
 use Rattle.rules.specs.Calendar.{days, month_lengths, slots}
-use Rattle.settlement.specs.Registers.{has, found, entered, changed, removed}
-use Rattle.register.specs.Numbered.{Above, Rising}
+use Rattle.settlement.specs.Registers.{found, entered, changed, removed}
 use Rattle.records.specs.declared.enrolment.Enrolment.{Enrolment}
 use Rattle.billing.specs.declared.reading.Reading.{Reading}
 use Rattle.billing.specs.Lines.{runs, Line, blank, number, take_reading}
 use Rattle.records.specs.declared.event.Event.{Event}
 use Rattle.records.specs.Asking.{facts}
-use Rattle.records.specs.Words.{word, content, event_words, shifted}
-use Rattle.records.specs.Journal.{struck}
-use Rattle.settlement.specs.declared.objection.Objection.{Objection}
-use Rattle.settlement.specs.Book.{Book}
-use Rattle.billing.specs.Bills.{sums_over, dues_of}
-use Rattle.settlement.specs.Settling.{Reckoning}
+use Rattle.records.specs.Words.{event_words}
+use Rattle.billing.specs.Bills.{sums_over}
 use Rattle.settlement.specs.Enrolling.{unreadable}
-use Rattle.settlement.specs.Posting.{asked, overflows, is_refused, charge, unpostable}
+use Rattle.settlement.specs.Posting.{charge, unpostable}
 use Rattle.rules.specs.declared.kind.Kind.{Kind}
 use Rattle.settlement.specs.Objecting.{take_off}
-use Rattle.book.specs.Limits.{PartyFits, SumsFit, LineFits, BookFits}
+use Rattle.book.specs.Limits.{PartyFits, SumsFit, LineFits}
 use Rattle.book.proofs.Strikes.{same_sums}
 use Rattle.book.proofs.Wording.{Fits, shifted_small}
 

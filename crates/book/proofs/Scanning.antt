@@ -1,7 +1,7 @@
 -- The sums that the journal's words give a party are the worth of its standing events. Assumes nothing.
-use Rattle.std.proofs.Common.{◌≡◌, ℕ, zero, suc, ◌+◌, ◌-◌, ◌<◌, ◌≤◌, Bool, true, false, cond, ◌&&◌, eqb, ◌⊎◌, List, [], ◌∷◌, ◌++◌, length, get_or, drop, set, Some, None, Ok, Err, sym, refl, ap, ◌∙◌, subst, ap₂, inl, inr, arith}
-use Rattle.std.proofs.lemmas.Bool.{eqb-true, eqb-false, eq-eqb, ne_eqb, cases_eq}
-use Rattle.std.proofs.lemmas.List.{length-append, drop-append-le, drop_all, drop-drop, drop-set-add, get_or-drop}
+use Rattle.std.proofs.Common.{◌≡◌, ℕ, zero, suc, ◌+◌, ◌-◌, ◌<◌, ◌≤◌, Bool, true, false, cond, ◌&&◌, eqb, ◌⊎◌, List, [], ◌∷◌, ◌++◌, length, get_or, drop, set, Err, sym, refl, ap, ◌∙◌, subst, ap₂, inl, inr, arith}
+use Rattle.std.proofs.lemmas.Bool.{eq-eqb, ne_eqb, cases_eq}
+use Rattle.std.proofs.lemmas.List.{length-append, drop-append-le, drop_all, drop-set-add, get_or-drop}
 use Rattle.rules.specs.declared.refusal.Refusal.{Refusal}
 use Rattle.rules.specs.declared.refusal.Refusal.TheVariants.{NotCovered}
 use Rattle.rules.specs.Answers.{Answer, Rulebook}
@@ -13,7 +13,7 @@ use Rattle.records.specs.Asking.{facts, worth}
 use Rattle.records.specs.Words.{kind, content, word, event_words, event_in}
 use Rattle.records.specs.Journal.{event_at, has_end, month_start, this_month, stands, standing_events, struck}
 use Rattle.book.specs.History.{Placed, without, worth_of}
-use Rattle.book.proofs.Strikes.{same_sums, plus_swap, plus_less, event_with, Falling, worth_without, worth_other}
+use Rattle.book.proofs.Strikes.{same_sums, plus_swap, plus_less, Falling, worth_without, worth_other}
 use Rattle.book.proofs.Wording.{Fits, decoded, event_kinds, placed_at, At, Located, month_start_push, month_start_end, month_start_event, month_start_struck}
 
 pub month_start_within : (ws : List ℕ) → month_start ws ≤ length ws

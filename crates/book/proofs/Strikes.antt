@@ -1,9 +1,9 @@
 -- What a strike takes off the worth of a party's events. Assumes nothing.
-use Rattle.std.proofs.Common.{◌≡◌, ℕ, zero, suc, ◌+◌, ◌-◌, ◌<◌, ◌≤◌, Bool, true, false, cond, eqb, List, [], ◌∷◌, Some, None, Option, sym, refl, ap, ◌∙◌, subst, ap₂, arith}
-use Rattle.std.proofs.lemmas.Bool.{eqb-true, eqb-false, eq-eqb, ne_eqb}
+use Rattle.std.proofs.Common.{◌≡◌, ℕ, ◌<◌, ◌≤◌, Bool, true, false, cond, eqb, List, [], ◌∷◌, Some, None, Option, sym, refl, ap, ◌∙◌, arith}
+use Rattle.std.proofs.lemmas.Bool.{eqb-true, eq-eqb, ne_eqb}
 use Rattle.rules.specs.Answers.{Rulebook, Answer}
 use Rattle.rules.specs.declared.sums.Sums.{Sums}
-use Rattle.rules.specs.Sums.{nothing, put, ◌plus◌, ◌less◌}
+use Rattle.rules.specs.Sums.{◌plus◌, ◌less◌}
 use Rattle.records.specs.declared.enrolment.Enrolment.{Enrolment}
 use Rattle.records.specs.Asking.{facts}
 use Rattle.book.specs.History.{Placed, without, worth_of}

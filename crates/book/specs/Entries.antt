@@ -1,5 +1,5 @@
 -- What an entry of a trace says as a call and an answer of the program. Assumes nothing.
-use Rattle.std.specs.Prelude.{ℕ, Bool, true, false, List, [], ◌∷◌, ◌++◌, length, Ok, Err, Result}
+use Rattle.std.specs.Prelude.{ℕ, Bool, true, false, List, [], length, Ok, Err, Result}
 use Rattle.rules.specs.declared.refusal.Refusal.{Refusal}
 use Rattle.billing.specs.declared.bill.Bill.{Bill}
 use Rattle.settlement.specs.declared.posted.Posted.{Posted}
@@ -8,7 +8,7 @@ use Rattle.settlement.specs.Book.{State, no_book, in_month, published}
 use Rattle.book.specs.declared.call.Call.{Call}
 use Rattle.book.specs.declared.call.Call.TheVariants as call
 use Rattle.book.specs.declared.answer.Answer as answers
-use Rattle.book.specs.declared.answer.Answer.TheVariants.{Done, Placed, Posted as Posted-at, Sums, Settled, Refused, Misplaced}
+use Rattle.book.specs.declared.answer.Answer.TheVariants.{Done, Placed, Posted as Posted-at, Sums, Settled, Refused}
 use Rattle.book.specs.Runs.{Entry, New, Enrol, Read, Post, PayIn, Publish, Object, Answer, WhatIf, AccountSums, Settle}
 
 -- The call of an entry.

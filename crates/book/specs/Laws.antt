@@ -1,5 +1,5 @@
 -- What holds of every run, whatever the rulebook means within its limits. Assumes nothing.
-use Rattle.std.specs.Prelude.{◌≡◌, ℕ, ◌+◌, ◌<◌, ◌≤◌, List, [], ◌∷◌, ◌++◌, map, length, ℤ, pos, ◌-ℤ◌, Ok, Err}
+use Rattle.std.specs.Prelude.{◌≡◌, ℕ, ◌+◌, ◌<◌, ◌≤◌, List, ◌∷◌, ◌++◌, map, length, ℤ, pos, ◌-ℤ◌, Ok}
 use Rattle.std.specs.List.{ContainsAt as Has}
 use Rattle.std.specs.List.Sorted.{IsPermutation}
 use Rattle.rules.specs.Answers.{Rulebook, Bounded}

@@ -1,5 +1,5 @@
 -- The limits that the book keeps. Assumes nothing.
-use Rattle.std.specs.Prelude.{ℕ, ◌*◌, ◌<◌, ◌≤◌, length}
+use Rattle.std.specs.Prelude.{◌*◌, ◌<◌, ◌≤◌, length}
 use Rattle.std.specs.List.{AllByRecursion as All}
 use Rattle.rules.specs.declared.sums.Sums.{Sums}
 use Rattle.register.specs.Numbered.{Rising}

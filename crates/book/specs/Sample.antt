@@ -1,5 +1,5 @@
 -- One month worked out: two parties, two readings, two events, 6,000 fen paid in, and the bills of its settling. Assumes nothing.
-use Rattle.std.specs.Prelude.{◌≡◌, ℕ, List, [], ◌∷◌, ℤ, pos, neg_ℤ, Ok, Err}
+use Rattle.std.specs.Prelude.{◌≡◌, [], ◌∷◌, pos, neg_ℤ, Ok}
 use Rattle.rules.specs.Figures.{Figures}
 use Rattle.rules.specs.Rulebooks.{table, rulebook_1}
 use Rattle.rules.specs.declared.account.Account.TheVariants.{Charges, First}

@@ -1,5 +1,5 @@
 -- One call for any command of the book, in any state. Assumes nothing.
-use Rattle.std.specs.Prelude.{◌≡◌, ℕ, Bool, true, false, cond, List, [], ◌∷◌, ◌++◌, map, length, take, drop}
+use Rattle.std.specs.Prelude.{◌≡◌, ℕ, false, cond, List, [], ◌∷◌, ◌++◌, map, length, take, drop}
 use Rattle.rules.specs.Answers.{Rulebook}
 use Rattle.billing.specs.declared.bill.Bill.{Bill}
 use Rattle.settlement.specs.Book.{State, no_book, in_month, published, Room}

@@ -1,4 +1,6 @@
 // The book as a whole: any call in any state, and the law that every run keeps.
+#![tactic(auto)]
+
 pub mod answer;
 pub mod call;
 pub mod laws;

@@ -19,7 +19,7 @@ pub fn play<P: Rule>(
     calls: &[Call],
     log: &mut [Answer],
 ) -> Stage
-    ensures played { Played (meaning rulebook.now) (take (min (length calls.now) (length log.old)) calls.now) (take (min (length calls.now) (length log.old)) log.new) (state_of result memory.new) }
+    ensures played { Played (P.meaning rulebook.now) (take (min (length calls.now) (length log.old)) calls.now) (take (min (length calls.now) (length log.old)) log.new) (state_of result memory.new) }
     ensures rest { drop (min (length calls.now) (length log.old)) log.new ≡ drop (min (length calls.now) (length log.old)) log.old }
 {
     let mut stage = Stage::NoBook;

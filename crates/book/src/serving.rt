@@ -73,7 +73,7 @@ fn in_open<P: Rule>(
     rulebook: &P,
     call: Call,
 ) -> (Stage, Answer)
-    ensures served { (rows : ℕ) (sheet : List Bill) → Served (meaning rulebook.now) (room_of rows memory.old) (in_month (opened month memory.old)) call result.1 sheet (state_of result.0 memory.new) }
+    ensures served { (rows : ℕ) (sheet : List Bill) → Served (P.meaning rulebook.now) (room_of rows memory.old) (in_month (opened month memory.old)) call result.1 sheet (state_of result.0 memory.new) }
     ensures left { MemoryLeft result.1 (state_of result.0 memory.new) memory.old memory.new }
 {
     let mut month = month;
@@ -114,7 +114,7 @@ fn in_published<P: Rule>(
     rulebook: &P,
     call: Call,
 ) -> (Stage, Answer)
-    ensures served { Served (meaning rulebook.now) (room_of (length sheet.old) memory.old) (published (closing month memory.old)) call result.1 sheet.new (state_of result.0 memory.new) }
+    ensures served { Served (P.meaning rulebook.now) (room_of (length sheet.old) memory.old) (published (closing month memory.old)) call result.1 sheet.new (state_of result.0 memory.new) }
     ensures left { MemoryLeft result.1 (state_of result.0 memory.new) memory.old memory.new }
     ensures sheet { SheetLeft result.1 sheet.old sheet.new }
 {
@@ -150,7 +150,7 @@ fn serve_any<P: Rule>(
     rulebook: &P,
     call: Call,
 ) -> (Stage, Answer)
-    ensures served { Served (meaning rulebook.now) (room_of (length sheet.old) memory.old) (state_of stage memory.old) call result.1 sheet.new (state_of result.0 memory.new) }
+    ensures served { Served (P.meaning rulebook.now) (room_of (length sheet.old) memory.old) (state_of stage memory.old) call result.1 sheet.new (state_of result.0 memory.new) }
     ensures left { MemoryLeft result.1 (state_of result.0 memory.new) memory.old memory.new }
     ensures sheet { SheetLeft result.1 sheet.old sheet.new }
 {
@@ -169,7 +169,7 @@ pub fn serve<P: Rule>(
     rulebook: &P,
     call: Call,
 ) -> (Stage, Answer)
-    ensures carries { Carries (meaning rulebook.now) (room_of (length sheet.old) memory.old) (state_of stage memory.old) call result.1 sheet.new (state_of result.0 memory.new) }
+    ensures carries { Carries (P.meaning rulebook.now) (room_of (length sheet.old) memory.old) (state_of stage memory.old) call result.1 sheet.new (state_of result.0 memory.new) }
     ensures left { MemoryLeft result.1 (state_of result.0 memory.new) memory.old memory.new }
     ensures sheet { SheetLeft result.1 sheet.old sheet.new }
 {

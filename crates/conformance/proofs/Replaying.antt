@@ -1,14 +1,13 @@
 -- A replay, line by line. Assumes nothing.
-use Rattle.std.proofs.Common.{◌≡◌, ℕ, ◌+◌, ◌<◌, ◌≤◌, Bool, true, false, eqb, List, [], ◌∷◌, ◌++◌, length, take, Some, None, Option, sym, refl, ap, ◌∙◌, subst, ⊎_elim, true≢false, arith, Bor}
-use Rattle.std.proofs.lemmas.List.{append_assoc, append-nil, append_cancel_left, length-append, nil_from_length}
+use Rattle.std.proofs.Common.{◌≡◌, ℕ, ◌+◌, ◌≤◌, Bool, true, false, eqb, List, [], ◌∷◌, ◌++◌, length, take, Some, None, Option, sym, refl, ap, ◌∙◌, subst, ⊎_elim, true≢false, arith, Bor}
+use Rattle.std.proofs.lemmas.List.{append_assoc, append_cancel_left, nil_from_length}
 use Rattle.std.proofs.lemmas.Bool.{cases_Bool, eq-eqb, eqb-true, cond-true, cond-false}
 use Rattle.billing.specs.declared.bill.Bill.{Bill}
 use Rattle.settlement.specs.declared.memory.Memory.{Memory}
 use Rattle.console.specs.declared.desk.Desk.{Desk}
 use Rattle.console.specs.Desks.{Answering}
-use Rattle.conformance.specs.declared.replay.Replayed.{Replayed}
 use Rattle.conformance.specs.Lines.{onto, lines}
-use Rattle.conformance.specs.Replays.{before, Replay, ended, cramped, answered, Left, After, Verdict, Judged}
+use Rattle.conformance.specs.Replays.{before, Replay, ended, cramped, answered, Left, After, Judged}
 
 before_none : (more : Option (List ℕ)) → more ≡ before [] more
 before_none None = refl

@@ -1,4 +1,6 @@
 // Replays scenarios, each by its name on a line of the input: the commands of NAME.in must give the answers of NAME.out.
+#![tactic(auto)]
+
 mod lines;
 mod replay;
 

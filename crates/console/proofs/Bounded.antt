@@ -1,28 +1,25 @@
 -- Every answer that a run leads to keeps the limits of the book. Assumes nothing.
-use Rattle.std.proofs.Common.{◌≡◌, ℕ, zero, suc, ◌+◌, ◌-◌, ◌*◌, ◌<◌, ◌≤◌, Bool, true, false, cond, eqb, List, [], ◌∷◌, ◌++◌, map, length, get_or, take, drop, set, ℤ, pos, ◌-ℤ◌, nat_abs, Some, None, Ok, Err, Result, sym, refl, ap, ◌∙◌, subst, arith}
+use Rattle.std.proofs.Common.{◌≡◌, ℕ, suc, ◌+◌, ◌*◌, ◌≤◌, Bool, true, false, cond, eqb, List, [], ◌∷◌, length, get_or, drop, pos, ◌-ℤ◌, nat_abs, Ok, Err, sym, subst, arith}
 use Rattle.std.proofs.lemmas.Int.{ints}
-use Rattle.std.proofs.lemmas.List.{length-append, length-set, get_or-drop, length-map}
+use Rattle.std.proofs.lemmas.List.{length-append, length-set, get_or-drop}
 use Rattle.std.specs.List.{AllByRecursion as All}
-use Rattle.std.proofs.lemmas.Bool.{or_parts, both_ways}
+use Rattle.std.proofs.lemmas.Bool.{or_parts}
 use Rattle.rules.specs.Answers.{Answer, Rulebook, Bounded, place}
-use Rattle.rules.specs.Sums.{put, nothing, ◌plus◌, listed}
-use Rattle.rules.specs.declared.refusal.Refusal.{Refusal}
+use Rattle.rules.specs.Sums.{put, ◌plus◌}
 use Rattle.rules.specs.declared.sums.Sums.{Sums}
 use Rattle.records.specs.Asking.{facts, worth}
-use Rattle.records.specs.Journal.{struck}
 use Rattle.records.specs.Words.{event_words, word, content}
 use Rattle.records.specs.declared.enrolment.Enrolment.{Enrolment}
 use Rattle.records.specs.declared.event.Event.{Event}
-use Rattle.billing.specs.Bills.{bill_of, bills_with, bills_of, pay_of, dues_of, column, lacks_weight}
+use Rattle.billing.specs.Bills.{bills_with, bills_of, pay_of, dues_of, column, lacks_weight}
 use Rattle.billing.specs.Lines.{Line}
-use Rattle.billing.specs.Sharing.{total, shares}
-use Rattle.billing.specs.declared.bill.Bill.{Bill}
+use Rattle.billing.specs.Sharing.{shares}
 use Rattle.billing.proofs.Shares.{fair, getD_le_total}
-use Rattle.settlement.specs.Book.{Book, State, no_book, in_month, published, words_in, Room}
+use Rattle.settlement.specs.Book.{Book, State, no_book, in_month, published, words_in}
 use Rattle.book.specs.Laws.{WithinLimits}
-use Rattle.book.specs.Limits.{SumsFit, LineFits, BookFits, StateFits}
-use Rattle.book.specs.History.{News, opened, enrolled, measured, posted, paid, upheld, settled, none, news, Placed, without, standing_with, standing, journal_with, journal, month, worth_of}
-use Rattle.book.specs.Runs.{Entry, Trace}
+use Rattle.book.specs.Limits.{LineFits, BookFits, StateFits}
+use Rattle.book.specs.History.{News, opened, enrolled, measured, posted, paid, upheld, settled, none, news, Placed, without, standing_with, standing, journal_with, journal, month}
+use Rattle.book.specs.Runs.{Trace}
 use Rattle.console.proofs.Sizes.{RowFits}
 
 -- what one answer puts on an account

@@ -1,10 +1,7 @@
 -- A field is read just where its text stands. Assumes nothing.
-use Rattle.std.proofs.Common.{◌≡◌, ℕ, suc, ◌+◌, ◌<◌, ◌≤◌, Bool, true, false, cond, eqb, ◌⊎◌, List, [], ◌∷◌, ◌++◌, length, ℤ, pos, neg_ℤ, Some, None, Option, sym, refl, ap, ◌∙◌, subst, inl, inr, ⊎_elim, arith, rules, eqb-true}
-use borrow.Author.Tests.{eqb-false}
-use Rattle.std.specs.Char.{is_ascii_digit}
-use Rattle.std.specs.Str.{all_ascii_digits}
+use Rattle.std.proofs.Common.{◌≡◌, ℕ, Bool, true, false, cond, eqb, ◌⊎◌, List, [], ◌∷◌, ◌++◌, length, ℤ, pos, neg_ℤ, Some, None, Option, sym, refl, ap, ◌∙◌, subst, inl, inr, ⊎_elim, arith, rules, eqb-true}
 use Rattle.console.specs.Format.{LacksDigit, numeral, unsigned, signed, signedAt, negated, plain as asPlain, and_then}
-use Rattle.console.specs.Grammar.{read_on, Number, Field, plain, net, FieldText, Fields}
+use Rattle.console.specs.Grammar.{Number, Field, plain, net, FieldText, Fields}
 use Rattle.console.proofs.Grammar.{numeral_reads, numeral_is, first_digit}
 
 -- what follows a field begins with no digit

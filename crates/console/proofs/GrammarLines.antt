@@ -1,11 +1,10 @@
 -- A line is read as a command just where it is a text of it. Assumes nothing.
-use Rattle.std.proofs.Common.{◌≡◌, ℕ, suc, ◌+◌, ◌<◌, ◌≤◌, Bool, true, false, cond, eqb, leb, ◌⊎◌, List, [], ◌∷◌, ◌++◌, length, ℤ, pos, neg_ℤ, Some, None, Option, sym, refl, ap, ◌∙◌, subst, inl, inr, ⊎_elim, arith, rules, eqb-true, le-leb, leb-true}
+use Rattle.std.proofs.Common.{◌≡◌, ℕ, true, false, cond, eqb, leb, List, [], ◌∷◌, length, Some, None, Option, sym, refl, ap, ◌∙◌, subst, ⊎_elim, eqb-true, le-leb, leb-true}
 use Rattle.console.specs.declared.command.Command.{Command}
 use Rattle.console.specs.declared.command.Command.TheVariants.{New, Enrol, Read, Post, PayIn, Publish, Object, Answer, WhatIf, AccountSums, Settle}
-use Rattle.console.specs.declared.command.Choice.{Choice}
 use Rattle.console.specs.declared.command.Choice.TheVariants.{First, Second}
-use Rattle.console.specs.Format.{unsigned, signed, and_then, chosen, flagged, new, enrol, meter, event, answer, single, body, whole, is_empty, lettered, parsed}
-use Rattle.console.specs.Grammar.{Field, plain, net, Fields, letter, fields, Text}
+use Rattle.console.specs.Format.{unsigned, signed, new, enrol, meter, event, answer, single, body, whole, lettered, parsed}
+use Rattle.console.specs.Grammar.{plain, net, Fields, letter, fields, Text}
 use Rattle.console.proofs.GrammarFields.{then_is, way, none_is, read_plain, read_net, plain_read, net_read}
 
 -- a text of the command is read

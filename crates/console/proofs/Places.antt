@@ -1,5 +1,5 @@
 -- A number of as many digits as there are places taken. Assumes nothing.
-use Rattle.std.proofs.Common.{◌≡◌, ℕ, suc, ◌+◌, ◌-◌, ◌*◌, ◌^◌, ◌<◌, ◌≤◌, true, false, eqb, List, ◌∷◌, sym, refl, ap, ◌∙◌, mul-le-mul_right, mul_assoc, mul_comm, mul-le-mul_left, pow-suc, le-mul_of_pos_right, arith, lit<, rules}
+use Rattle.std.proofs.Common.{◌≡◌, ℕ, suc, ◌+◌, ◌-◌, ◌*◌, ◌^◌, ◌<◌, ◌≤◌, true, false, eqb, List, ◌∷◌, sym, ap, ◌∙◌, mul-le-mul_right, mul_assoc, mul_comm, pow-suc, le-mul_of_pos_right, arith, lit<, rules}
 use native.Mathlib.Nat.{pow-le-pow_right}
 use Rattle.std.specs.Char.{is_ascii_digit}
 use Rattle.console.specs.Format.{numeral}

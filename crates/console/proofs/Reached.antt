@@ -1,21 +1,19 @@
 -- The answer to any call that a run leads to has room on a page. Assumes nothing.
-use Rattle.std.proofs.Common.{◌≡◌, ℕ, ◌+◌, ◌-◌, ◌*◌, ◌<◌, ◌≤◌, Bool, true, false, cond, List, [], ◌∷◌, ◌++◌, map, length, take, Ok, Err, Result, sym, refl, ap, ◌∙◌, subst, append-nil, arith}
+use Rattle.std.proofs.Common.{◌≡◌, ℕ, ◌≤◌, Bool, true, false, cond, List, [], ◌∷◌, map, length, take, Ok, Err, Result, sym, refl, ap, ◌∙◌, subst, append-nil, arith}
 use Rattle.std.proofs.lemmas.List.{length-map}
 use Rattle.std.specs.List.{AllByRecursion as All}
 use Rattle.rules.specs.Answers.{Rulebook}
 use Rattle.rules.specs.Sums.{listed}
 use Rattle.rules.specs.declared.refusal.Refusal.{Refusal}
-use Rattle.rules.specs.declared.sums.Sums.{Sums}
 use Rattle.records.specs.declared.enrolment.Enrolment.{Enrolment}
-use Rattle.billing.specs.Bills.{bills_of, dues_of}
 use Rattle.billing.specs.declared.bill.Bill.{Bill}
 use Rattle.billing.proofs.Rows.{length_bills}
-use Rattle.settlement.specs.Book.{Book, State, no_book, in_month, published, words_in, Room}
+use Rattle.settlement.specs.Book.{State, no_book, in_month, published, Room}
 use Rattle.settlement.specs.Settling.{Reckoning}
-use Rattle.book.specs.Entries.{call_of, answer_of, rows_of, allows, done_of}
+use Rattle.book.specs.Entries.{answer_of, rows_of, allows, done_of}
 use Rattle.book.specs.History.{Placed, without, standing, journal, month, worth_of}
-use Rattle.book.specs.Laws.{WithinLimits, Lawful}
-use Rattle.book.specs.Limits.{BookFits, StateFits}
+use Rattle.book.specs.Laws.{WithinLimits}
+use Rattle.book.specs.Limits.{StateFits}
 use Rattle.book.specs.Runs.{Entry, New, Enrol, Read, Post, PayIn, Publish, Object, Answer, WhatIf, AccountSums, Settle, Trace, Step, settle, Run, next}
 use Rattle.book.specs.Serving.{Steps, rows_in, Served}
 use Rattle.book.specs.declared.answer.Answer as answers
@@ -23,7 +21,7 @@ use Rattle.book.specs.declared.answer.Answer.TheVariants.{Misplaced}
 use Rattle.book.specs.declared.call.Call.{Call}
 use Rattle.book.proofs.Keeping.{weighed}
 use Rattle.book.proofs.Lawful.{every_run_lawful, every_run_within_limits}
-use Rattle.console.proofs.Bounded.{WorthFits, worth_small, without_fewer, events_few, words_few, bills_fit}
+use Rattle.console.proofs.Bounded.{worth_small, without_fewer, events_few, words_few, bills_fit}
 use Rattle.console.proofs.Sizes.{RowFits, AnswerFits}
 
 done_fits : (r : Result (Unit {0}) Refusal) (sheet : List Bill) → AnswerFits (done_of r) sheet

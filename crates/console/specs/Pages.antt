@@ -1,5 +1,5 @@
 -- What is written to a page. Assumes nothing.
-use Rattle.std.specs.Prelude.{◌≡◌, ℕ, ◌+◌, ◌≤◌, false, List, [], ◌∷◌, ◌++◌, length, take, drop}
+use Rattle.std.specs.Prelude.{◌≡◌, ℕ, ◌+◌, ◌≤◌, false, List, ◌++◌, length, take, drop}
 use Rattle.console.specs.declared.page.Page.{Page}
 
 abbrev pub bytes : Page → List ℕ

@@ -1,4 +1,6 @@
 // What a clerk types and reads: a line to a command, an answer to bytes, and one call for a line.
+#![tactic(auto)]
+
 pub mod command;
 pub mod desk;
 pub mod line;

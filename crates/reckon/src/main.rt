@@ -1,4 +1,6 @@
 // Reads command lines on its input and writes the answers.
+#![tactic(auto)]
+
 use billing::bill::Bill;
 use billing::party::Party;
 use console::desk::{Desk, answer_line};

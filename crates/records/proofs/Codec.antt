@@ -1,9 +1,9 @@
 -- What is written in words is read back. Assumes nothing.
-use Rattle.std.proofs.Common.{◌≡◌, ℕ, suc, ◌+◌, ◌-◌, ◌*◌, ◌/◌, ◌%◌, ◌<◌, ◌≤◌, get_or, ℤ, pos, negsuc, nat_abs, sym, refl, ap, ◌∙◌, arith}
+use Rattle.std.proofs.Common.{◌≡◌, ℕ, suc, ◌+◌, ◌-◌, ◌*◌, ◌/◌, ◌%◌, ◌<◌, ◌≤◌, ℤ, pos, negsuc, nat_abs, ap, ◌∙◌, arith}
 use lib.IntN.{sub_ℕ}
 use Rattle.std.proofs.lemmas.Bool.{cond-true, cond-false, lt-ltb, le-ltb}
 use Rattle.records.specs.declared.event.Event.{Event}
-use Rattle.records.specs.Words.{kind, content, word, shifted, quantity, event_in, Sizes, RoundTrip, WordReadBack}
+use Rattle.records.specs.Words.{content, word, shifted, quantity, RoundTrip, WordReadBack}
 
 pub word_back : WordReadBack
 word_back k c h = (omega arith, omega arith)

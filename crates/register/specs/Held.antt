@@ -1,5 +1,5 @@
 -- What a register holds. Assumes nothing.
-use Rattle.std.specs.Prelude.{◌≡◌, ℕ, ◌+◌, ◌≤◌, min, Bool, true, false, List, ◌++◌, length, take, drop, None, Ok, Err, Result, nat_le}
+use Rattle.std.specs.Prelude.{◌≡◌, ℕ, ◌≤◌, min, Bool, true, false, List, ◌++◌, length, take, drop, None, Ok, Err, Result, nat_le}
 use Rattle.std.specs.List.{insert}
 use Rattle.register.specs.declared.Register.{Register}
 use Rattle.register.specs.declared.Full.{Full}

@@ -1,5 +1,7 @@
 // A register of numbered records over lent memory. Every method is total: whatever the lines hold and whatever count
 // comes with them, the first `count` lines are the register's, never more than LIMIT or than there are lines.
+#![tactic(auto)]
+
 ghost use Rattle.std.specs.Prelude.{◌≡◌, ℕ, ◌≤◌, [], length, IfSome, slice_set};
 ghost use Rattle.std.specs.List.{slice_get};
 ghost use Rattle.register.specs.Numbered.{first_at, place_at, without, Rising, Only};

@@ -1,18 +1,15 @@
 -- What the layers of the rulebooks do to a service is a change of its amounts. Assumes nothing.
-use Rattle.std.proofs.Common.{◌≡◌, ℕ, ◌+◌, ◌-◌, ◌*◌, ◌<◌, ◌≤◌, min, Bool, true, false, cond, ◌&&◌, ltb, leb, get_or, nat_abs, Ok, Err, sym, refl, ap, ◌∙◌, inl, inr, mul-le-mul, arith, rules}
+use Rattle.std.proofs.Common.{◌≡◌, ℕ, ◌*◌, ◌<◌, ◌≤◌, min, true, ◌&&◌, ltb, leb, nat_abs, Ok, Err, sym, ap, ◌∙◌, inl, inr, mul-le-mul, arith, rules}
 use Rattle.std.proofs.lemmas.Bool.{and_parts, leb-true, leb-false, le-leb, lt-leb, cond_both, cond-true, cond-false, cases_Bool}
-use Rattle.std.proofs.lemmas.Bool.Decides.{nat_tests}
-use Rattle.std.proofs.lemmas.Int.{ints}
-use Rattle.rules.specs.declared.account.Account.{Account}
 use Rattle.rules.specs.declared.account.Account.TheVariants.{Charges}
 use Rattle.rules.specs.declared.facts.Facts.{Facts}
-use Rattle.rules.specs.declared.refusal.Refusal.TheVariants.{NotCovered, OutOfRange, OverCeiling}
+use Rattle.rules.specs.declared.refusal.Refusal.TheVariants.{NotCovered, OutOfRange}
 use Rattle.rules.specs.Answers.{Answer}
 use Rattle.rules.specs.Division.{quotient}
 use Rattle.rules.specs.Layers.{season, capped, grace}
 use Rattle.rules.specs.Ranges.{in_range, peak, Sizes}
 use Rattle.rules.specs.Rulebooks.{changed, in_season, after_grace}
-use Rattle.rules.specs.Services.{Service, answer, named, up_to_ceiling, unplanned_outage, fixed_fee, fees}
+use Rattle.rules.specs.Services.{Service, answer, named, up_to_ceiling, unplanned_outage, fixed_fee}
 use Rattle.rules.proofs.Quotients.{quotient_bound}
 
 -- facts in range have their sizes

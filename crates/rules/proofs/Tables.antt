@@ -1,5 +1,5 @@
 -- Chapters of services are a table by number. Assumes nothing.
-use Rattle.std.proofs.Common.{◌≡◌, ℕ, Bool, true, false, cond, not, ◌&&◌, eqb, leb, List, [], ◌∷◌, ◌++◌, Ok, Err, sym, refl, ap, ◌∙◌, inl, inr}
+use Rattle.std.proofs.Common.{◌≡◌, ℕ, Bool, true, false, not, ◌&&◌, eqb, leb, List, [], ◌∷◌, ◌++◌, Ok, Err, sym, refl, ap, ◌∙◌, inl, inr}
 use Rattle.std.proofs.lemmas.Bool.{and_parts, cond_both, cond-true, cond-false, cases_Bool, eqb-true, not-true, and_left}
 use Rattle.rules.specs.declared.facts.Facts.{Facts}
 use Rattle.rules.specs.declared.refusal.Refusal.TheVariants.{NotCovered, OverCeiling}
@@ -7,7 +7,7 @@ use Rattle.rules.specs.Answers.{Answer}
 use Rattle.rules.specs.Layers.{or_else}
 use Rattle.rules.specs.Ranges.{in_range}
 use Rattle.rules.specs.Rulebooks.{table}
-use Rattle.rules.specs.Services.{Service, answer, up_to_ceiling, named}
+use Rattle.rules.specs.Services.{Service, answer, named}
 
 -- no line has this number
 abbrev pub free : ℕ → List (ℕ × Service) → Bool

@@ -1,9 +1,9 @@
 -- No service passes the ceiling, and so no table of services does. Assumes nothing.
-use Rattle.std.specs.Prelude.{ℕ, true, ◌&&◌, List, [], ◌∷◌, Ok, Err, ◌==◌, nat_le}
+use Rattle.std.specs.Prelude.{ℕ, ◌&&◌, List, [], ◌∷◌, Ok, Err, ◌==◌, nat_le}
 use Rattle.std.proofs.lemmas.Bool.{cond_both, leb-true}
 use Rattle.rules.specs.declared.facts.Facts.{Facts}
 use Rattle.rules.specs.declared.refusal.Refusal.TheVariants.{OverCeiling}
-use Rattle.rules.specs.Answers.{Answer, Bounded}
+use Rattle.rules.specs.Answers.{Bounded}
 use Rattle.rules.specs.Ranges.{in_range}
 use Rattle.rules.specs.Rulebooks.{table}
 use Rattle.rules.specs.Services.{Service, answer, named}

@@ -1,7 +1,6 @@
 -- Worked figures of rulebook 1. Assumes nothing.
 use Rattle.std.specs.Prelude.{◌≡◌, ℕ, ℤ, pos, Ok, Err}
 use Rattle.rules.specs.declared.account.Account.TheVariants.{Charges, First}
-use Rattle.rules.specs.declared.facts.Facts.{Facts}
 use Rattle.rules.specs.declared.kind.Kind.TheVariants.{Coal}
 use Rattle.rules.specs.declared.refusal.Refusal.TheVariants.{OutOfRange, OverCeiling}
 use Rattle.rules.specs.Answers.{Answer}

@@ -1,6 +1,5 @@
 -- The nine services: whom each names, what fits it, the account, the amount. Assumes nothing.
-use Rattle.std.specs.Prelude.{ℕ, ◌+◌, ◌-◌, ◌*◌, min, Bool, cond, ◌&&◌, List, [], ◌∷◌, ℤ, pos, Ok, Err, ◌==◌, int_lt, nat_le, nat_lt, slice_index, unsigned_abs}
-use Rattle.std.specs.Int.Signed.{le_z}
+use Rattle.std.specs.Prelude.{ℕ, ◌+◌, ◌-◌, ◌*◌, min, Bool, cond, ◌&&◌, List, [], ◌∷◌, pos, Ok, Err, ◌==◌, int_lt, nat_le, nat_lt, slice_index, unsigned_abs}
 use Rattle.rules.specs.declared.account.Account.{Account}
 use Rattle.rules.specs.declared.account.Account.TheVariants.{Charges, First, Second, Third}
 use Rattle.rules.specs.declared.facts.Facts.{Facts}

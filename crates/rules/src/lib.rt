@@ -1,4 +1,6 @@
 // Rules that turn facts into an account and an amount, layers over them, and the two rulebooks.
+#![tactic(auto)]
+
 pub mod account;
 pub mod calendar;
 pub mod ceiling;

@@ -1,7 +1,7 @@
 -- A search by number in lent lines, and what the lines it stands for say of the number. Assumes nothing.
-use Rattle.std.proofs.Common.{◌≡◌, ℕ, zero, suc, ◌+◌, ◌<◌, ◌≤◌, min, Bool, true, false, cond, ◌||◌, eqb, ltb, leb, List, [], ◌∷◌, ◌++◌, map, length, take, drop, set, Some, None, Option, sym, refl, ap, ◌∙◌, subst, arith}
+use Rattle.std.proofs.Common.{◌≡◌, ℕ, zero, suc, ◌+◌, ◌≤◌, min, Bool, true, false, cond, ◌||◌, eqb, ltb, List, [], ◌∷◌, ◌++◌, map, take, drop, Some, None, Option, sym, refl, ap, ◌∙◌, subst, arith}
 use Rattle.std.proofs.lemmas.Bool.{eqb-true}
-use Rattle.std.specs.List.{slice_get, insert, remove}
+use Rattle.std.specs.List.{slice_get, insert}
 use Rattle.std.proofs.lemmas.List.{map-append, take-map, drop-map}
 use Rattle.register.specs.Numbered.{first_from, place_from}
 use Rattle.settlement.specs.Registers.{has, found, entered, changed}

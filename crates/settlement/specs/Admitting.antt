@@ -1,5 +1,5 @@
 -- What the reading halves of the calls find out, before anything is written. Assumes nothing.
-use Rattle.std.specs.Prelude.{◌≡◌, ℕ, ◌<◌, ◌≤◌, Bool, true, false, List, length, Some, None, Ok, Err, Option, Result, slice_set}
+use Rattle.std.specs.Prelude.{◌≡◌, ℕ, ◌<◌, ◌≤◌, true, false, List, Some, None, Ok, Err, Option, Result, slice_set}
 use Rattle.rules.specs.Answers.{Rulebook}
 use Rattle.rules.specs.declared.refusal.Refusal.{Refusal}
 use Rattle.records.specs.declared.enrolment.Enrolment.{Enrolment}

@@ -1,5 +1,5 @@
 -- Asking for a party's account sums, as they are and as if an event were struck. The book stays as it is. Assumes nothing.
-use Rattle.std.specs.Prelude.{◌≡◌, ℕ, Bool, not, ◌||◌, List, [], ◌∷◌, ◌++◌, Some, None, Option, Result}
+use Rattle.std.specs.Prelude.{◌≡◌, ℕ, not, ◌||◌, List, [], ◌∷◌, ◌++◌, Some, None, Option, Result}
 use Rattle.rules.specs.declared.refusal.Refusal.{Refusal}
 use Rattle.rules.specs.declared.refusal.Refusal.TheVariants.{UnknownParty, NoSuchEvent, StruckAlready, OutOfStep}
 use Rattle.rules.specs.Answers.{Rulebook}

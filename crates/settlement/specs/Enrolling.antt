@@ -1,5 +1,5 @@
 -- A new book, enrolling a party, and reading its power. Assumes nothing.
-use Rattle.std.specs.Prelude.{ℕ, ◌+◌, ◌-◌, ◌*◌, min, Bool, false, not, ◌&&◌, ◌||◌, leb, List, [], ◌∷◌, length, pos, is_some, Some, None, Option, Result, int_lt, nat_le, nat_lt, unsigned_abs}
+use Rattle.std.specs.Prelude.{ℕ, min, Bool, false, not, ◌&&◌, ◌||◌, leb, List, [], ◌∷◌, length, pos, is_some, Some, None, Option, Result, int_lt, nat_le, nat_lt, unsigned_abs}
 use Rattle.rules.specs.declared.refusal.Refusal.{Refusal}
 use Rattle.rules.specs.declared.refusal.Refusal.TheVariants.{UnknownParty, EnrolledAlready, RosterFull, OutOfRange, SlotPassed}
 use Rattle.rules.specs.declared.kind.Kind.{Kind}

@@ -4,7 +4,7 @@ use Rattle.std.specs.List.{remove as removed}
 use Rattle.register.specs.declared.Register.{Register}
 use Rattle.register.specs.Held.{room}
 use Rattle.billing.specs.declared.party.Party.{Party}
-use Rattle.billing.specs.Lines.{Line, number, blank}
+use Rattle.billing.specs.Lines.{Line, number}
 use Rattle.billing.specs.Lent.{line_of, lines_of}
 use Rattle.settlement.specs.Registers as by
 

@@ -1,5 +1,5 @@
 -- The book that a month and the memory lent to it stand for. Assumes nothing.
-use Rattle.std.specs.Prelude.{◌≡◌, ℕ, Bool, true, false, List, length, take, drop, Ok, Err, Result}
+use Rattle.std.specs.Prelude.{◌≡◌, ℕ, length, take, drop, Ok, Err, Result}
 use Rattle.register.specs.Held.{held, room, Kept}
 use Rattle.rules.specs.declared.refusal.Refusal.{Refusal}
 use Rattle.billing.specs.Lent.{lines_of}

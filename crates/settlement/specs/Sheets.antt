@@ -1,9 +1,8 @@
 -- Settling over a lent sheet. Assumes nothing.
-use Rattle.std.specs.Prelude.{◌≡◌, ℕ, List, length, take, drop, pos, ◌-ℤ◌}
+use Rattle.std.specs.Prelude.{◌≡◌, List, length, take, drop, pos, ◌-ℤ◌}
 use Rattle.rules.specs.declared.refusal.Refusal.{Refusal}
 use Rattle.billing.specs.declared.bill.Bill.{Bill}
 use Rattle.billing.specs.Bills.{net_sum}
-use Rattle.settlement.specs.Book.{Book}
 use Rattle.settlement.specs.Checks.{Accepted, Refused}
 use Rattle.settlement.specs.Settling.{settle_checks, Settles, settle, Reckoning}
 use Rattle.settlement.specs.Lent.{opened, closing, room_of, Beyond}

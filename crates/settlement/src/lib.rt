@@ -1,4 +1,6 @@
 // The book of a month: its lent memory, its two states, and its calls.
+#![tactic(auto)]
+
 pub mod memory;
 pub mod month;
 pub mod objection;

@@ -44,7 +44,7 @@ impl Month {
         rulebook: &P,
         event: &Event,
     ) -> Result<Admission, Refusal>
-        ensures { Admitting (meaning rulebook.now) (room_of 0 memory.now) event.now (book_of self.now memory.now) result }
+        ensures { Admitting (P.meaning rulebook.now) (room_of 0 memory.now) event.now (book_of self.now memory.now) result }
     {
         let words = &*memory.words;
         if words.len() < self.used {

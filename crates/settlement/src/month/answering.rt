@@ -24,7 +24,7 @@ pub(super) struct Refund {
 impl Month {
     // None where no standing event is there, its party is not enrolled, the rulebook refuses it, or the sum is smaller.
     fn refund<P: Rule>(&self, memory: &Memory, rulebook: &P, place: usize) -> Option<Refund>
-        ensures { Refunding (meaning rulebook.now) place (book_of self.now memory.now) result }
+        ensures { Refunding (P.meaning rulebook.now) place (book_of self.now memory.now) result }
     {
         let words = &*memory.words;
         let Some(event) = event_at(used_words(words, self.used), place) else {
@@ -55,7 +55,7 @@ impl PublishedMonth {
         place: u32,
         upheld: bool,
     ) -> Result<(), Refusal>
-        ensures does { AnswerObjection (meaning rulebook.now) (room_of 0 memory.old) place upheld (closing self.now memory.old) result (closing self.now memory.new) }
+        ensures does { AnswerObjection (P.meaning rulebook.now) (room_of 0 memory.old) place upheld (closing self.now memory.old) result (closing self.now memory.new) }
         ensures left { Left result self.now.month.used memory.old memory.new }
         ensures freed { Freed upheld place result memory.old.objections memory.new.objections }
     {

@@ -16,7 +16,7 @@ impl Month {
         rulebook: &P,
         party: u32,
     ) -> Result<[u64; 4], Refusal>
-        ensures { AccountSums (meaning rulebook.now) (room_of 0 memory.now) party (book_of self.now memory.now) result (book_of self.now memory.now) }
+        ensures { AccountSums (P.meaning rulebook.now) (room_of 0 memory.now) party (book_of self.now memory.now) result (book_of self.now memory.now) }
     {
         let words = &*memory.words;
         if words.len() < self.used {
@@ -46,7 +46,7 @@ impl OpenMonth {
         rulebook: &P,
         party: u32,
     ) -> Result<[u64; 4], Refusal>
-        ensures { AccountSums (meaning rulebook.now) (room_of 0 memory.now) party (opened self.now memory.now) result (opened self.now memory.now) }
+        ensures { AccountSums (P.meaning rulebook.now) (room_of 0 memory.now) party (opened self.now memory.now) result (opened self.now memory.now) }
     {
         self.month.sums_of(memory, rulebook, party)
     }
@@ -59,7 +59,7 @@ impl PublishedMonth {
         rulebook: &P,
         party: u32,
     ) -> Result<[u64; 4], Refusal>
-        ensures { AccountSums (meaning rulebook.now) (room_of 0 memory.now) party (closing self.now memory.now) result (closing self.now memory.now) }
+        ensures { AccountSums (P.meaning rulebook.now) (room_of 0 memory.now) party (closing self.now memory.now) result (closing self.now memory.now) }
     {
         self.month.sums_of(memory, rulebook, party)
     }

@@ -18,7 +18,7 @@ impl OpenMonth {
         rulebook: &P,
         event: &Event,
     ) -> Result<Posted, Refusal>
-        ensures does { Post (meaning rulebook.now) (room_of 0 memory.old) event.now (opened self.old memory.old) result (opened self.new memory.new) }
+        ensures does { Post (P.meaning rulebook.now) (room_of 0 memory.old) event.now (opened self.old memory.old) result (opened self.new memory.new) }
         ensures left { Left result self.new.month.used memory.old memory.new }
     {
         let admission = match self.month.admit(memory, rulebook, event) {

@@ -17,7 +17,7 @@ impl PublishedMonth {
         rulebook: &P,
         place: u32,
     ) -> Result<[u64; 4], Refusal>
-        ensures does { WhatIf (meaning rulebook.now) (room_of 0 memory.old) place (closing self.now memory.old) result (closing self.now memory.new) }
+        ensures does { WhatIf (P.meaning rulebook.now) (room_of 0 memory.old) place (closing self.now memory.old) result (closing self.now memory.new) }
         ensures same { memory.new ≡ memory.old }
     {
         let place = place as usize;

@@ -14,5 +14,5 @@ figures = refl
 
 pub returns : goal.returns
 returns c =
-    let s = shared _ _ c.share-out.ensures.shares in
+    let s = shared _ _ c.share_out.ensures.shares in
     record { shares = s; figures = s ∙ figures }

@@ -1,7 +1,6 @@
 use Rattle.std.proofs.Common.{◌≡◌, ℕ, Bool, true, false, cond, List, length, Some, None, sym, refl, ◌∙◌, subst, arith}
 use Rattle.std.proofs.lemmas.Bool.{le-ltb, eq-eqb, ne_eqb, or_from, and_left, and_right, not_from_true, cond-false}
 use Rattle.billing.specs.Bills.{unshared}
-use Rattle.billing.specs.Giving.{share_bar}
 use Rattle.billing.specs.Sharing.{total, shares_from, shares, Fair}
 use Rattle.billing.proofs.Shares.{fair}
 use Rattle.billing.proofs.sharing.share_out.Goals as goal
@@ -26,9 +25,9 @@ returns c =
       | else-pool-gt0-via-then-pool-gt0+else-whole-eq0 v ↦ and_right _ _ (ne_eqb (total ws) 0 (λ z. v.if-whole-eq0.false (w.1 ∙ z)))
       | else-pool-gt0-via-else-pool-gt0 v ↦ and_left _ _ (le-ltb 0 pool v.if-pool-gt0.false)
     ] in
-    let r = or_from _ _ (le-ltb 40_000_000_000 pool c.if-pool-gt-MOST-SUM.false)
+    let r = or_from _ _ (le-ltb 40_000_000_000 pool c.if-pool-gt-MOST_SUM.false)
     (or_from _ _ (not_from_true _ (eq-eqb (length ws) (length ss) c.if-weights-shares.false))
-    (or_from _ _ (le-ltb 64 (length ss) c.if-shares-gt-MOST-PARTIES.false) w.0)) in
+    (or_from _ _ (le-ltb 64 (length ss) c.if-shares-gt-MOST_PARTIES.false) w.0)) in
     let o = c.over.ensures in
     let g : c.give.new.shares ≡ shares pool ws = c.give.ensures ∙ begun _ _ _ pool ws o.0 (o.1 ∙ w.1) o.2 in
     record {

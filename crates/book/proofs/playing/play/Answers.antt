@@ -1,10 +1,9 @@
-use Rattle.std.proofs.Common.{◌≡◌, ◌+◌, ◌<◌, min, [], ◌∷◌, ◌++◌, length, take, drop, set, sym, refl, ap, ◌∙◌, subst, arith}
+use Rattle.std.proofs.Common.{◌≡◌, ◌+◌, ◌<◌, min, [], ◌∷◌, ◌++◌, length, take, drop, sym, refl, ap, ◌∙◌, subst, arith}
 use Rattle.std.proofs.lemmas.List.{take_more, take_more_set, length-set, drop-set-lt, drop-drop}
 use Rattle.book.specs.Serving.{state_of}
 use Rattle.book.specs.Playing.{Plays, none, more}
 use Rattle.book.specs.Runs.{start}
 use Rattle.book.proofs.Lawful.{every_run_lawful}
-use Rattle.book.proofs.Plays.{SoFar}
 use Rattle.book.proofs.playing.play.Goals as goal
 
 pub loop-i-init : goal.loop-i-init

@@ -1,6 +1,5 @@
-use Rattle.std.proofs.Common.{◌≡◌, Ok, Err, sym, refl, ap, ◌∙◌, subst}
-use Rattle.rules.specs.Calendar.{count}
-use Rattle.settlement.specs.Book.{no_book, in_month, new_book}
+use Rattle.std.proofs.Common.{Ok, Err, sym, refl, ap, subst}
+use Rattle.settlement.specs.Book.{no_book, in_month}
 use Rattle.settlement.specs.Lent.{Beyond, room_of}
 use Rattle.book.specs.Runs.{New, Step, new, not_new}
 use Rattle.book.specs.Entries.{allows}

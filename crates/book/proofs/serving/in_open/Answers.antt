@@ -1,6 +1,6 @@
-use Rattle.std.proofs.Common.{◌≡◌, sym, refl, ap, ◌∙◌, subst}
+use Rattle.std.proofs.Common.{sym, refl, ap, subst}
 use Rattle.settlement.specs.Book.{in_month, published}
-use Rattle.settlement.specs.Lent.{opened, closing, room_of}
+use Rattle.settlement.specs.Lent.{opened, room_of}
 use Rattle.book.specs.Runs.{Enrol, Read, Post, PayIn, Publish, AccountSums, Step, enrol, read, post, pay_in, publish, account_sums}
 use Rattle.book.specs.Entries.{allows}
 use Rattle.book.specs.Serving.{MemoryLeft}
@@ -39,12 +39,12 @@ returns-in-Post g c =
 
 pub returns-in-PayIn : goal.returns-in-PayIn
 returns-in-PayIn g c =
-    let after = in_month (opened c.pay-in-result.new.self c.pay-in-result.new.memory) in
+    let after = in_month (opened c.pay_in-result.new.self c.pay_in-result.new.memory) in
     record {
-      served = λ rows sheet. heard _ _ _ c.args.call _ sheet _ (PayIn c.in-PayIn.amount c.pay-in-result.result)
-          (ap (allows (in_month (opened c.args.month c.args.memory.now))) c.in-PayIn.is) (sym c.in-PayIn.is) (sym c.placed.ensures) refl (pay_in c.pay-in-result.ensures.does);
-      left = subst (λ a. MemoryLeft a after c.args.memory.now c.pay-in-result.new.memory) (sym c.placed.ensures)
-          (left_placed c.pay-in-result.result after c.args.memory.now c.pay-in-result.new.memory c.pay-in-result.ensures.left);
+      served = λ rows sheet. heard _ _ _ c.args.call _ sheet _ (PayIn c.in-PayIn.amount c.pay_in-result.result)
+          (ap (allows (in_month (opened c.args.month c.args.memory.now))) c.in-PayIn.is) (sym c.in-PayIn.is) (sym c.placed.ensures) refl (pay_in c.pay_in-result.ensures.does);
+      left = subst (λ a. MemoryLeft a after c.args.memory.now c.pay_in-result.new.memory) (sym c.placed.ensures)
+          (left_placed c.pay_in-result.result after c.args.memory.now c.pay_in-result.new.memory c.pay_in-result.ensures.left);
     }
 
 pub returns-in-AccountSums : goal.returns-in-AccountSums
@@ -52,9 +52,9 @@ returns-in-AccountSums g c =
     let now = c.args.memory.now in
     let after = in_month (opened c.args.month now) in
     record {
-      served = λ rows sheet. heard _ _ _ c.args.call _ sheet _ (AccountSums c.in-AccountSums.party c.account-sums-result.result)
-          (ap (allows after) c.in-AccountSums.is) (sym c.in-AccountSums.is) (sym c.sums.ensures) refl (account_sums c.account-sums-result.ensures);
-      left = subst (λ a. MemoryLeft a after now now) (sym c.sums.ensures) (left_sums c.account-sums-result.result after now now refl);
+      served = λ rows sheet. heard _ _ _ c.args.call _ sheet _ (AccountSums c.in-AccountSums.party c.account_sums-result.result)
+          (ap (allows after) c.in-AccountSums.is) (sym c.in-AccountSums.is) (sym c.sums.ensures) refl (account_sums c.account_sums-result.ensures);
+      left = subst (λ a. MemoryLeft a after now now) (sym c.sums.ensures) (left_sums c.account_sums-result.result after now now refl);
     }
 
 pub returns-in-Publish : goal.returns-in-Publish

@@ -1,10 +1,10 @@
-use Rattle.std.proofs.Common.{◌≡◌, length, take, Ok, Err, sym, refl, ap, ◌∙◌, subst}
-use Rattle.settlement.specs.Book.{in_month, published}
-use Rattle.settlement.specs.Lent.{opened, closing, room_of}
+use Rattle.std.proofs.Common.{◌≡◌, length, take, Ok, Err, sym, refl, ap, subst}
+use Rattle.settlement.specs.Book.{published}
+use Rattle.settlement.specs.Lent.{closing, room_of}
 use Rattle.settlement.specs.Sheets.{reckoned}
-use Rattle.book.specs.Runs.{Object, Answer, WhatIf, AccountSums, Settle, Step, object, answer, what_if, account_sums_then, settle}
+use Rattle.book.specs.Runs.{Object, Answer, WhatIf, AccountSums, Settle, object, answer, what_if, account_sums_then, settle}
 use Rattle.book.specs.Entries.{allows}
-use Rattle.book.specs.Serving.{MemoryLeft, SheetLeft}
+use Rattle.book.specs.Serving.{MemoryLeft}
 use Rattle.book.specs.declared.answer.Answer.TheVariants.{Settled}
 use Rattle.book.proofs.Heard.{heard, left_done, left_sums, sheet_same, rows_taken}
 use Rattle.book.proofs.serving.in_published.Goals as goal
@@ -33,12 +33,12 @@ returns-in-Answer g c =
 
 pub returns-in-WhatIf : goal.returns-in-WhatIf
 returns-in-WhatIf g c =
-    let after = published (closing c.args.month c.what-if-result.new.memory) in
+    let after = published (closing c.args.month c.what_if-result.new.memory) in
     record {
-      served = heard _ _ _ c.args.call _ c.args.sheet.now _ (WhatIf c.in-WhatIf.place c.what-if-result.result)
-          (ap (allows (published (closing c.args.month c.args.memory.now))) c.in-WhatIf.is) (sym c.in-WhatIf.is) (sym c.sums.ensures) refl (what_if c.what-if-result.ensures.does);
-      left = subst (λ a. MemoryLeft a after c.args.memory.now c.what-if-result.new.memory) (sym c.sums.ensures)
-          (left_sums c.what-if-result.result after c.args.memory.now c.what-if-result.new.memory c.what-if-result.ensures.same);
+      served = heard _ _ _ c.args.call _ c.args.sheet.now _ (WhatIf c.in-WhatIf.place c.what_if-result.result)
+          (ap (allows (published (closing c.args.month c.args.memory.now))) c.in-WhatIf.is) (sym c.in-WhatIf.is) (sym c.sums.ensures) refl (what_if c.what_if-result.ensures.does);
+      left = subst (λ a. MemoryLeft a after c.args.memory.now c.what_if-result.new.memory) (sym c.sums.ensures)
+          (left_sums c.what_if-result.result after c.args.memory.now c.what_if-result.new.memory c.what_if-result.ensures.same);
       sheet = sheet_same _ c.args.sheet.now;
     }
 
@@ -47,9 +47,9 @@ returns-in-AccountSums g c =
     let now = c.args.memory.now in
     let after = published (closing c.args.month now) in
     record {
-      served = heard _ _ _ c.args.call _ c.args.sheet.now _ (AccountSums c.in-AccountSums.party c.account-sums-result.result)
-          (ap (allows after) c.in-AccountSums.is) (sym c.in-AccountSums.is) (sym c.sums-in-AccountSums.ensures) refl (account_sums_then c.account-sums-result.ensures);
-      left = subst (λ a. MemoryLeft a after now now) (sym c.sums-in-AccountSums.ensures) (left_sums c.account-sums-result.result after now now refl);
+      served = heard _ _ _ c.args.call _ c.args.sheet.now _ (AccountSums c.in-AccountSums.party c.account_sums-result.result)
+          (ap (allows after) c.in-AccountSums.is) (sym c.in-AccountSums.is) (sym c.sums-in-AccountSums.ensures) refl (account_sums_then c.account_sums-result.ensures);
+      left = subst (λ a. MemoryLeft a after now now) (sym c.sums-in-AccountSums.ensures) (left_sums c.account_sums-result.result after now now refl);
       sheet = sheet_same _ c.args.sheet.now;
     }
 

@@ -6,7 +6,7 @@ use Rattle.book.proofs.serving.serve.Goals as goal
 pub returns : goal.returns
 returns g c =
     let means = g.P.Rule.meaning c.args.rulebook.now in
-    let did = c.serve-any.ensures in
+    let did = c.serve_any.ensures in
     let more = carry means _ _ _ did.served.added did.served.steps in
     record {
       carries = record {

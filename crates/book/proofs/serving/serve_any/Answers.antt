@@ -1,6 +1,4 @@
-use Rattle.std.proofs.Common.{length, sym, subst}
-use Rattle.settlement.specs.Lent.{room_of}
-use Rattle.book.specs.Serving.{state_of, Served}
+use Rattle.std.proofs.Common.{length}
 use Rattle.book.proofs.Heard.{sheet_same}
 use Rattle.book.proofs.serving.serve_any.Goals as goal
 
@@ -8,8 +6,8 @@ pub returns-in-NoBook : goal.returns-in-NoBook
 returns-in-NoBook g c =
     let sheet = c.args.sheet.now in
     record {
-      served = rw c.in-NoBook.is (c.in-no-book.ensures.served _ (length sheet) sheet);
-      left = c.in-no-book.ensures.left;
+      served = rw c.in-NoBook.is (c.in_no_book.ensures.served _ (length sheet) sheet);
+      left = c.in_no_book.ensures.left;
       sheet = sheet_same _ sheet;
     }
 
@@ -17,7 +15,7 @@ pub returns-in-Open : goal.returns-in-Open
 returns-in-Open g c =
     let sheet = c.args.sheet.now in
     record {
-      served = rw c.in-Open.is (c.in-open.ensures.served (length sheet) sheet);
-      left = c.in-open.ensures.left;
+      served = rw c.in-Open.is (c.in_open.ensures.served (length sheet) sheet);
+      left = c.in_open.ensures.left;
       sheet = sheet_same _ sheet;
     }

@@ -36,5 +36,5 @@ returns c = record {
   words = refl;
   struck_word = refl;
   thirds = refl;
-  rules = c.worked-figures.ensures;
+  rules = c.worked_figures.ensures;
 }

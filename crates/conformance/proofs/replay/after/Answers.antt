@@ -7,5 +7,5 @@ use Rattle.std.proofs.lemmas.Bool.Decides.{Decides-eqb}
 pub returns : goal.returns
 returns c =
     let given = c.args.given.now in
-    subst (λ e. After e given c.strip-prefix.result) (sym c.in-ok-expected.was)
-    (strip_prefix_is Decides-eqb c.in-ok-expected.field-0.now given c.strip-prefix.result c.strip-prefix.ensures.cases)
+    subst (λ e. After e given c.strip_prefix.result) (sym c.in_ok-expected.was)
+    (strip_prefix_is Decides-eqb c.in_ok-expected.field-0.now given c.strip_prefix.result c.strip_prefix.ensures.cases)

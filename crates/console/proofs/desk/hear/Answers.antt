@@ -12,7 +12,7 @@ returns c =
     let stage = c.args.desk.stage in
     let command = c.in-Some.command in
     let new = c.choose-choice.result in
-    let did = c.serve-by-stage in
+    let did = c.serve_by-stage in
     let carries : Carries (means_of new) (room_of (length c.args.sheet.now) m) (state_of stage m) (call_of command) did.result.1 did.new.sheet (state_of did.result.0 did.new.memory) =
     subst (λ call. Carries (means_of new) (room_of (length c.args.sheet.now) m) (state_of stage m) call did.result.1 did.new.sheet (state_of did.result.0 did.new.memory))
     c.call.ensures did.ensures.carries in

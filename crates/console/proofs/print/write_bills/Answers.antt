@@ -8,7 +8,7 @@ pub loop-bill-init : goal.loop-bill-init
 loop-bill-init c = wrote_none c.args.page.now
 
 pub loop-bill-preserved : goal.loop-bill-preserved
-loop-bill-preserved c = wrote_next line c.args.bills.now c.loop-bill.bill-index _ c.loop-bill-test.true c.loop-bill.invariant c.write-bill.ensures
+loop-bill-preserved c = wrote_next line c.args.bills.now c.loop-bill.bill-index _ c.loop-bill-test.true c.loop-bill.invariant c.write_bill.ensures
 
 pub returns : goal.returns
 returns c = rw (take_all c.loop-bill.bill-index c.args.bills.now (omega arith)) at c.loop-bill.invariant

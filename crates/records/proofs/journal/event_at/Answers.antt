@@ -1,18 +1,18 @@
-use Rattle.std.proofs.Common.{◌≡◌, ℕ, get_or, drop, sym, ap, ◌∙◌, arith, rules}
+use Rattle.std.proofs.Common.{◌≡◌, get_or, ap, ◌∙◌, arith}
 use Rattle.std.proofs.lemmas.List.{take_rest, get_or_past}
 use Rattle.std.proofs.lemmas.Bool.Decides.{nat_tests}
 use Rattle.records.specs.Words.{kind}
 use Rattle.records.specs.Journal.{first_event}
 use Rattle.records.proofs.Events.{there}
 use Rattle.records.proofs.journal.event_at.Goals as goal
-use Rattle.records.proofs.journal.event_at.Goals.{then-place-month-start-via-then-place-month-start, then-place-month-start-via-else-place-month-start+then-place-words}
+use Rattle.records.proofs.journal.event_at.Goals.{then-place-month_start-via-then-place-month_start, then-place-month_start-via-else-place-month_start+then-place-words}
 
-pub returns-then-place-month-start : goal.returns-then-place-month-start
-returns-then-place-month-start c =
+pub returns-then-place-month_start : goal.returns-then-place-month_start
+returns-then-place-month_start c =
     let ws = c.args.words.now in
-    elim c.then-place-month-start.branch [
-      | then-place-month-start-via-then-place-month-start w ↦ grind (arith, nat_tests)
-      | then-place-month-start-via-else-place-month-start+then-place-words w ↦
+    elim c.then-place-month_start.branch [
+      | then-place-month_start-via-then-place-month_start w ↦ grind (arith, nat_tests)
+      | then-place-month_start-via-else-place-month_start+then-place-words w ↦
           let none : kind (get_or ws c.args.place 0) ≡ 0 = ap kind (get_or_past ws c.args.place 0 w.if-place-words.true) in
           grind (arith, nat_tests)
     ]

@@ -8,5 +8,5 @@ pub returns : goal.returns
 returns g c =
     let number = g.R.Keyed.number in
     let lines = held c.args.self.now in
-    let first : c.find-in.result ≡ first_at number c.args.number lines = c.find-in.ensures ∙ ap (first_at number c.args.number) c.held.ensures.held in
+    let first : c.find_in.result ≡ first_at number c.args.number lines = c.find_in.ensures ∙ ap (first_at number c.args.number) c.held.ensures.held in
     record { first = first; only = only_first number c.args.number lines _ first }

@@ -16,14 +16,14 @@ returns g c =
     let is : n ≡ min (min c.args.self.now.used g.row.LIMIT) (length xs) = c.count-n.ensures.count in
     let i = c.place-i.result in
     let y = c.args.line in
-    let ys = c.rotate-right.new.self in
+    let ys = c.rotate_right.new.self in
     let zs = set (put_mid i (n + 1 - i) xs ys) i y in
     let spare : n < length xs = omega arith in
     let within : i ≤ n = omega (arith, c.place-i.ensures.within) in
     let long : length ys ≡ n + 1 - i = search (rules, places) in
     let whole : length zs ≡ length xs = search (rules, places) in
     let shifted : (j : ℕ) (d : g.row.R.Denot) → 1 ≤ j → j < n + 1 - i → get_or ys j d ≡ get_or xs (i + (j - 1)) d
-    = λ j d l h. search (rules, places, c.rotate-right.ensures.by_index.1 j d) in
+    = λ j d l h. search (rules, places, c.rotate_right.ensures.by_index.1 j d) in
     let count : min (min (n + 1) g.row.LIMIT) (length zs) ≡ n + 1 = omega arith in
     let number = g.R.Keyed.number in
     let place : i ≡ place_at number (number y) (held c.args.self.now) = c.place-i.ensures.place ∙ ap (λ k. place_at number k (held c.args.self.now)) c.key.ensures in

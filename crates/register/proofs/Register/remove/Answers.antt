@@ -14,17 +14,17 @@ returns-then-i-n g c =
     let n = c.count-n.result in
     let is : n ≡ min (min c.args.self.now.used g.row.LIMIT) (length xs) = c.count-n.ensures.count in
     let i = c.args.i in
-    let ys = c.rotate-left.new.self in
+    let ys = c.rotate_left.new.self in
     let zs = put_mid i (n - i) xs ys in
     let le : n ≤ length xs = omega arith in
     let long : length ys ≡ n - i = search (rules, places) in
     let whole : length zs ≡ length xs = search (rules, places) in
     let shifted : (j : ℕ) (d : g.row.R.Denot) → j + 1 < n - i → get_or ys j d ≡ get_or xs (i + (j + 1)) d
-    = λ j d h. search (rules, places, c.rotate-left.ensures.by_index.0 j d) in
+    = λ j d h. search (rules, places, c.rotate_left.ensures.by_index.0 j d) in
     let count : min (min (n - 1) g.row.LIMIT) (length zs) ≡ n - 1 = omega arith in
     let holds : take (min (min (n - 1) g.row.LIMIT) (length zs)) zs ≡ remove (held c.args.self.now) i =
     ap (λ k. take k zs) count ∙ (held_removed xs n i ys (omega arith) le long shifted ∙ ap (λ k. remove (take k xs) i) is) in
-    let last : (d : g.row.R.Denot) → get_or ys (n - i - 1) d ≡ get_or xs i d = λ d. search (rules, places, c.rotate-left.ensures.by_index.1 (n - i - 1) d) in
+    let last : (d : g.row.R.Denot) → get_or ys (n - i - 1) d ≡ get_or xs i d = λ d. search (rules, places, c.rotate_left.ensures.by_index.1 (n - i - 1) d) in
     record {
       holds = holds;
       rises = λ rising. subst (Rising g.R.Keyed.number) (sym holds) (rising_removed g.R.Keyed.number i (held c.args.self.now) rising);

@@ -1,4 +1,4 @@
-use Rattle.std.proofs.Common.{◌≡◌, ◌<◌, ◌≤◌, min, length, take, set, sym, refl, subst, arith, rules}
+use Rattle.std.proofs.Common.{◌≡◌, ◌<◌, ◌≤◌, min, length, take, set, sym, subst, arith, rules}
 use Rattle.std.proofs.lemmas.List.{length-set, length-take, set_past, drop-set-lt, places}
 use Rattle.register.specs.Numbered.{Rising}
 use Rattle.register.specs.Held.{held}

@@ -1,7 +1,6 @@
-use Rattle.std.proofs.Common.{◌≡◌, true, false, sym, ap, ◌∙◌}
+use Rattle.std.proofs.Common.{sym}
 use Rattle.register.specs.Held.{held}
 use Rattle.settlement.specs.Book.{place_of}
-use Rattle.settlement.specs.Registers.{has}
 use Rattle.settlement.proofs.Finds.{found_here, none_here}
 use Rattle.settlement.proofs.objections.is_objected.Goals as goal
 

@@ -1,6 +1,5 @@
-use Rattle.std.proofs.Common.{◌≡◌, true, false, set, Some, sym, ap, ◌∙◌}
+use Rattle.std.proofs.Common.{false, set, ap, ◌∙◌}
 use Rattle.register.specs.Held.{held}
-use Rattle.settlement.specs.declared.objection.Objection.{Objection}
 use Rattle.settlement.specs.Book.{place_of}
 use Rattle.settlement.specs.Objecting.{waits}
 use Rattle.settlement.proofs.Finds.{none_here, record_here, never_lost}

@@ -4,8 +4,8 @@ use Rattle.billing.proofs.party.Party.weight_over.Goals as goal
 most : (capacity slots : ℕ) → capacity ≤ 4_000_000 → slots ≤ 8928 → capacity * slots ≤ 35_712_000_000
 most capacity slots h k = mul-le-mul {n₂ = 4_000_000} {m₂ = 8928} h k
 
-pub overflow-cast-result-3 : goal.overflow-cast-result-3
-overflow-cast-result-3 c =
+pub overflow_cast-result-3 : goal.overflow_cast-result-3
+overflow_cast-result-3 c =
     let e = ap (λ p. p.capacity) c.enrolled.ensures in
     let m = most c.enrolled.result.capacity c.args.slots (omega (arith, c.args.self.now.sized.1)) c.requires in
     search rules

@@ -6,13 +6,13 @@ use Rattle.billing.proofs.sharing.Sharing.next.Goals as goal
 pub returns-then-weight-eq0 : goal.returns-then-weight-eq0
 returns-then-weight-eq0 c = search (rules, step_none)
 
-pub overflow-sub-share : goal.overflow-sub-share
+pub overflow_sub-share : goal.overflow_sub-share
 unfolding part
-overflow-sub-share c = search (rules, part_mono)
+overflow_sub-share c = search (rules, part_mono)
 
-pub invariant-of-self : goal.invariant-of-self
+pub invariant_of-self : goal.invariant_of-self
 unfolding part
-invariant-of-self c = search rules
+invariant_of-self c = search rules
 
 pub returns : goal.returns
 unfolding part step

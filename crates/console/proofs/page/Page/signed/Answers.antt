@@ -7,6 +7,6 @@ pub returns : goal.returns
 returns c =
     let below : c.args.n <ℤ pos 0 = omega (arith, ints) in
     let fit : SFits w64 c.args.n = c.ranges.n in
-    let size = simp to_z-of_z at c.unsigned-abs.ensures.value in
-    rw (signed_below c.args.n c.unsigned-abs.result below size)
+    let size = simp to_z-of_z at c.unsigned_abs.ensures.value in
+    rw (signed_below c.args.n c.unsigned_abs.result below size)
     (wrote_more _ _ c.byte.ensures c.unsigned-2.ensures)

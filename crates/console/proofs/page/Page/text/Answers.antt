@@ -7,11 +7,11 @@ returns c =
     record {
       put = λ f. record {
         unfull = f.unfull;
-        text = put_text c.args.self.now.bytes.now _ _ c.args.s.now _ c.copy-from-slice.ensures.after (omega arith);
+        text = put_text c.args.self.now.bytes.now _ _ c.args.s.now _ c.copy_from_slice.ensures.after (omega arith);
         end = refl;
       };
       fits = λ h e. record { unfull = e; room = omega arith };
-      sound = λ h. put_sound c.args.self.now.bytes.now _ _ c.args.s.now _ c.copy-from-slice.ensures.after (omega arith) (omega arith);
-      long = put_length c.args.self.now.bytes.now _ _ c.args.s.now _ c.copy-from-slice.ensures.after (omega arith) (omega arith);
+      sound = λ h. put_sound c.args.self.now.bytes.now _ _ c.args.s.now _ c.copy_from_slice.ensures.after (omega arith) (omega arith);
+      long = put_length c.args.self.now.bytes.now _ _ c.args.s.now _ c.copy_from_slice.ensures.after (omega arith) (omega arith);
       lent = refl;
     }

@@ -1,13 +1,13 @@
-use Rattle.std.proofs.Common.{◌≡◌, ◌+◌, ◌*◌, ◌^◌, ◌<◌, ◌≤◌, sym, ap, ◌∙◌, arith, rules}
+use Rattle.std.proofs.Common.{ap, arith, rules}
 use Rattle.console.specs.Format.{numeral}
 use Rattle.console.proofs.Places.{place_more, place_fits, place_all, numeral_more}
 use Rattle.console.proofs.reader.Reader.numeral.Goals as goal
 
-pub overflow-mul-value : goal.overflow-mul-value
-overflow-mul-value c = omega (arith, place_fits c.loop-digit.value c.loop-digit.room (omega arith) c.loop-digit.invariant.1)
+pub overflow_mul-value : goal.overflow_mul-value
+overflow_mul-value c = omega (arith, place_fits c.loop-digit.value c.loop-digit.room (omega arith) c.loop-digit.invariant.1)
 
-pub overflow-add-value : goal.overflow-add-value
-overflow-add-value c =
+pub overflow_add-value : goal.overflow_add-value
+overflow_add-value c =
     let d = c.in-Some.ensures in
     omega (arith, place_fits c.loop-digit.value c.loop-digit.room (omega arith) c.loop-digit.invariant.1)
 
@@ -23,6 +23,6 @@ loop-digit-preserved c =
       omega arith,
     )
 
-pub returns-else-room-eq-MOST-DIGITS : goal.returns-else-room-eq-MOST-DIGITS
-returns-else-room-eq-MOST-DIGITS c =
+pub returns-else-room-eq-MOST_DIGITS : goal.returns-else-room-eq-MOST_DIGITS
+returns-else-room-eq-MOST_DIGITS c =
     record { reads = search rules; short = place_all c.loop-digit.value c.loop-digit.room c.loop-digit.invariant.1 }

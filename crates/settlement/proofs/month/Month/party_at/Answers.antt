@@ -1,4 +1,4 @@
-use Rattle.std.proofs.Common.{◌≡◌, ◌/◌, true, false, not, get_or, Some, sym, refl, ap, ◌∙◌, subst}
+use Rattle.std.proofs.Common.{◌≡◌, ◌/◌, true, false, not, get_or, Some, sym, ap, ◌∙◌, subst}
 use Rattle.rules.specs.declared.refusal.Refusal.TheVariants.{OutOfStep}
 use Rattle.records.specs.Words.{content}
 use Rattle.records.specs.Journal.{event_at}
@@ -10,19 +10,19 @@ use Rattle.settlement.specs.Asking.{standing_checks}
 use Rattle.settlement.proofs.Postings.{last_holds, last_clear}
 use Rattle.settlement.proofs.month.Month.party_at.Goals as goal
 
-pub returns-in-default : goal.returns-in-default
-returns-in-default c =
+pub returns-in_default : goal.returns-in_default
+returns-in_default c =
     let b = book_of c.args.self.now c.args.memory.now in
     let named : c.content-number.result / 524_288 ≡ (event_at c.args.place b.words).party =
-    ap (λ w. w / 524_288) (c.content-number.ensures ∙ ap (λ ws. content (get_or ws c.args.place 0)) c.used-words-words.ensures.words) in
+    ap (λ w. w / 524_288) (c.content-number.ensures ∙ ap (λ ws. content (get_or ws c.args.place 0)) c.used_words-words.ensures.words) in
     last_holds (standing_checks (room_of 0 c.args.memory.now) c.args.place b) OutOfStep _ c.in-Ok.ensures.free
-    (ap not (subst (λ n. has number n b.lines ≡ false) named c.in-default.ensures.missing))
+    (ap not (subst (λ n. has number n b.lines ≡ false) named c.in_default.ensures.missing))
 
 pub returns : goal.returns
 returns c =
     let b = book_of c.args.self.now c.args.memory.now in
     let named : c.content-number.result / 524_288 ≡ (event_at c.args.place b.words).party =
-    ap (λ w. w / 524_288) (c.content-number.ensures ∙ ap (λ ws. content (get_or ws c.args.place 0)) c.used-words-words.ensures.words) in
+    ap (λ w. w / 524_288) (c.content-number.ensures ∙ ap (λ ws. content (get_or ws c.args.place 0)) c.used_words-words.ensures.words) in
     let at = c.in-Some.ensures in
     record {
       free = last_clear (standing_checks (room_of 0 c.args.memory.now) c.args.place b) OutOfStep _ c.in-Ok.ensures.free

@@ -1,4 +1,4 @@
-use Rattle.std.proofs.Common.{◌≡◌, ◌+◌, map, take, set, sym, refl, ap, ◌∙◌, subst, arith}
+use Rattle.std.proofs.Common.{◌≡◌, ◌+◌, map, set, sym, refl, ap, ◌∙◌, subst, arith}
 use Rattle.std.proofs.lemmas.List.{take_all}
 use Rattle.register.specs.Held.{held, count, Kept}
 use Rattle.settlement.specs.Settling.{renewed}
@@ -7,7 +7,7 @@ use Rattle.settlement.proofs.Renewals.{SoFar, one_more, none_more, nth_lined, co
 use Rattle.register.specs.declared.Register.{Register}
 use Rattle.billing.specs.declared.party.Party.{Party}
 use Rattle.settlement.proofs.month.renewing.renew.Goals as goal
-use Rattle.settlement.proofs.month.renewing.renew.Goals.{in-Some, in-default}
+use Rattle.settlement.proofs.month.renewing.renew.Goals.{in-Some, in_default}
 
 pub loop-i-init : goal.loop-i-init
 loop-i-init c = (record { alike = refl; front = refl }, record { lent = refl; long = refl; beyond = λ n p q. refl }, refl)
@@ -27,8 +27,8 @@ loop-i-preserved c =
             kept_twice first current next c.loop-i.invariant.2 c.loop-i.invariant.1 kept,
             same_count current next i _ step ∙ c.loop-i.invariant.2,
           )
-      | in-default w ↦
-          let at = ap lined w.in-default.ensures ∙ nth_lined (held current) i in
+      | in_default w ↦
+          let at = ap lined w.in_default.ensures ∙ nth_lined (held current) i in
           subst (λ (r : Register Party 64). SoFar (lines_of first) (lines_of r) (i + 1) × Kept first r × (count r ≡ count first)) (sym w.roster-is)
           (none_more (lines_of first) (lines_of current) i at c.loop-i.invariant.0, c.loop-i.invariant.1, c.loop-i.invariant.2)
     ]
