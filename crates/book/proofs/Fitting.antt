@@ -3,7 +3,7 @@ use Rattle.std.proofs.Common.{◌≡◌, ℕ, ◌+◌, ◌<◌, ◌≤◌, min, 
 use Rattle.std.proofs.lemmas.Bool.{ltb-false, leb-true, leb-false, and_parts, not-false, both_ways}
 use Rattle.std.proofs.ByRecursion.{All-append}
 use Rattle.std.proofs.lemmas.List.{length-append, length-set, length-map}
-use Rattle.std.specs.List.{AllByRecursion as All}
+use Rattle.std.specs.List.{AllByRecursion}
 use Rattle.rules.specs.Answers.{Rulebook}
 use Rattle.rules.specs.Calendar.{last_month, count}
 use Rattle.settlement.specs.Registers.{found, changed}
@@ -31,9 +31,9 @@ pub record Held (b : Book) : Type 0 where
   pub used_is : b.used ≡ length b.words
   pub month_low : 24_000 ≤ b.month
   pub month_high : b.month ≤ 25_199
-  pub words : All (λ w. w < 4_294_967_296) b.words
+  pub words : AllByRecursion (λ w. w < 4_294_967_296) b.words
   pub words_used : length b.words ≤ 1_048_576
-  pub lines : All Framed b.lines
+  pub lines : AllByRecursion Framed b.lines
   pub parties : length b.lines ≤ 64
   pub objections : length b.objections ≤ 16
   pub sums : SumsFit (sums_over b.lines)

@@ -12,7 +12,7 @@ use Rattle.settlement.specs.Lent.{Beyond, Left}
 use Rattle.settlement.specs.declared.memory.Memory.{Memory}
 use Rattle.book.specs.declared.call.Call.{Call}
 use Rattle.book.specs.declared.answer.Answer.{Answer}
-use Rattle.book.specs.declared.answer.Answer.TheVariants.{Done, Placed, Posted as Posted-at, Sums, Settled, Refused, Misplaced}
+use Rattle.book.specs.declared.answer.Answer.TheVariants.{Done, Placed, Posted as PostedAt, Sums, Settled, Refused, Misplaced}
 use Rattle.rules.specs.declared.refusal.Refusal.{Refusal}
 use Rattle.settlement.specs.declared.posted.Posted.{Posted}
 use Rattle.book.specs.Runs.{Entry, Step}
@@ -60,7 +60,7 @@ left_sums (Err _) after m m' h = h
 pub sheet_same : (a : Answer) (s : List Bill) → SheetLeft a s s
 sheet_same Done s = refl
 sheet_same (Placed _) s = refl
-sheet_same (Posted-at _) s = refl
+sheet_same (PostedAt _) s = refl
 sheet_same (Sums _) s = refl
 sheet_same (Settled _) s = (refl, refl)
 sheet_same (Refused _) s = refl

@@ -1,6 +1,6 @@
 -- Every run is lawful, by induction over the run. Assumes nothing.
 use Rattle.std.proofs.Common.{◌≡◌, ℕ, suc, ◌≤◌, Bool, true, false, cond, eqb, ◌⊎◌, List, [], ◌∷◌, ◌++◌, map, length, get_or, ℤ, pos, ◌+ℤ◌, ◌-ℤ◌, is_some, Some, None, Ok, Err, Option, sym, refl, ap, ◌∙◌, subst, ap₂, subst₂, inl, inr, arith}
-use Rattle.std.specs.List.{ContainsAt as Has}
+use Rattle.std.specs.List.{ContainsAt}
 use Rattle.std.proofs.lemmas.List.Sorted.{IsPermutation-sym}
 use Rattle.std.proofs.ByRecursion.{has_shuffled}
 use Rattle.std.proofs.lemmas.Int.{ints}
@@ -231,7 +231,7 @@ module _ (means : Rulebook) (t : Trace) (b : Book) (i : Holds means t b) where
 
   -- what the rulebook is asked about, at the party of the number
   asked_party : (e : Event) (c : Account × ℕ) → answer_to means e b ≡ Ok c →
-      (q : Enrolment) × Has (enrolments t) q × (q.number ≡ e.party) × (means (facts q (month t) e) ≡ Ok c)
+      (q : Enrolment) × ContainsAt (enrolments t) q × (q.number ≡ e.party) × (means (facts q (month t) e) ≡ Ok c)
   asked_party e c h =
       go (found_drawn (λ p. worth_of means (month t) p (standing t)) (λ p. passed p (readings t)) (λ p. magnitude p (readings t)) (λ p. running_slots p (readings t)) e.party (sorted (enrolments t)))
     where
@@ -239,9 +239,9 @@ module _ (means : Rulebook) (t : Trace) (b : Book) (i : Holds means t b) where
       same = sym (ap₂ (λ m ls. asked means m e (found number e.party ls)) i.month_is i.lines_are) ∙ h
 
       go : (found number e.party (map (line_of means (month t) (readings t) (standing t)) (sorted (enrolments t))) ≡ None)
-          ⊎ ((q : Enrolment) × Has (sorted (enrolments t)) q × (q.number ≡ e.party)
+          ⊎ ((q : Enrolment) × ContainsAt (sorted (enrolments t)) q × (q.number ≡ e.party)
           × (found number e.party (map (line_of means (month t) (readings t) (standing t)) (sorted (enrolments t))) ≡ Some (line_of means (month t) (readings t) (standing t) q)))
-          → (q : Enrolment) × Has (enrolments t) q × (q.number ≡ e.party) × (means (facts q (month t) e) ≡ Ok c)
+          → (q : Enrolment) × ContainsAt (enrolments t) q × (q.number ≡ e.party) × (means (facts q (month t) e) ≡ Ok c)
       go (inl n) = absurd (let z : Err UnknownParty ≡ Ok c = sym (ap (asked means (month t) e) n) ∙ same in let y : ◌≡◌ {A = ℕ} 0 1 = cc in omega arith)
       go (inr f) = (
         f.0,
@@ -273,7 +273,7 @@ module _ (means : Rulebook) (t : Trace) (b : Book) (i : Holds means t b) where
       same = subst₂ (λ m ls. ReadsSums means m ws (found number n ls) s) i.month_is i.lines_are h
 
       go : (found number n (map (line_of means (month t) (readings t) (standing t)) (sorted (enrolments t))) ≡ None)
-          ⊎ ((q : Enrolment) × Has (sorted (enrolments t)) q × (q.number ≡ n)
+          ⊎ ((q : Enrolment) × ContainsAt (sorted (enrolments t)) q × (q.number ≡ n)
           × (found number n (map (line_of means (month t) (readings t) (standing t)) (sorted (enrolments t))) ≡ Some (line_of means (month t) (readings t) (standing t) q)))
           → LawfulSums means t n es s
       go (inl z) = absurd (subst (λ o. ReadsSums means (month t) ws o s) z same)
@@ -291,11 +291,11 @@ module _ (means : Rulebook) (t : Trace) (b : Book) (i : Holds means t b) where
   lawful_sums n s h =
       read_sums n (journal t) (standing t) s (subst (λ ws. ReadsSums means b.month ws (found number n b.lines) s) i.words_are h) i.scanned
 
-  has_with : (place : ℕ) (e : Placed) (es : List Placed) → event_with place es ≡ Some e → Has es e
+  has_with : (place : ℕ) (e : Placed) (es : List Placed) → event_with place es ≡ Some e → ContainsAt es e
   has_with place e [] h = absurd (let y : ◌≡◌ {A = ℕ} 0 1 = cc in omega arith)
   has_with place e (d ∷ es) h = go (has_with place e es) (eqb d.place place) h
     where
-      go : (event_with place es ≡ Some e → Has es e) → (u : Bool) → cond u (Some d) (event_with place es) ≡ Some e → Has (d ∷ es) e
+      go : (event_with place es ≡ Some e → ContainsAt es e) → (u : Bool) → cond u (Some d) (event_with place es) ≡ Some e → ContainsAt (d ∷ es) e
       go ih true q = let same : d ≡ e = cc in (0, omega arith, λ x. same)
       go ih false q = let f = ih q in (suc f.0, omega (arith, f.1), f.2)
 

@@ -1,7 +1,7 @@
 -- Every call keeps the book within its limits. Assumes nothing.
 use Rattle.std.proofs.Common.{◌≡◌, ℕ, zero, suc, ◌+◌, ◌*◌, ◌/◌, ◌%◌, ◌<◌, ◌≤◌, Bool, true, false, cond, ◌&&◌, eqb, ltb, leb, List, [], ◌∷◌, map, length, get_or, set, ℤ, pos, negsuc, nat_abs, Some, Ok, Err, refl, ap, ◌∙◌, subst, arith}
 use Rattle.std.proofs.lemmas.Bool.{eqb-true, ltb-false, leb-false, or_parts}
-use Rattle.std.specs.List.{AllByRecursion as All}
+use Rattle.std.specs.List.{AllByRecursion}
 use Rattle.rules.specs.Answers.{Answer, Rulebook}
 use Rattle.rules.specs.declared.account.Account.{Account}
 use Rattle.rules.specs.declared.account.Account.TheVariants.{Charges, First, Second, Third}
@@ -25,20 +25,20 @@ use Rattle.book.proofs.Strikes.{same_sums}
 use Rattle.book.proofs.Wording.{Fits, shifted_small}
 
 module _ {R : Type 0} (key : R → ℕ) where
-  pub all_entered : (P : R → Type 0) (r : R) (rs : List R) → P r → All P rs → All P (entered key r rs)
+  pub all_entered : (P : R → Type 0) (r : R) (rs : List R) → P r → AllByRecursion P rs → AllByRecursion P (entered key r rs)
   all_entered P r [] h a = (h, tt)
   all_entered P r (q ∷ qs) h a = go (all_entered P r qs h a.1) (ltb (key r) (key q))
     where
-      go : All P (entered key r qs) → (t : Bool) → All P (cond t (r ∷ q ∷ qs) (q ∷ entered key r qs))
+      go : AllByRecursion P (entered key r qs) → (t : Bool) → AllByRecursion P (cond t (r ∷ q ∷ qs) (q ∷ entered key r qs))
       go ih true = (h, a)
       go ih false = (a.0, ih)
 
   -- the record that is changed is the one that is found
-  pub all_changed : (P : R → Type 0) (n : ℕ) (f : R → R) (rs : List R) → ((r : R) → found key n rs ≡ Some r → P r → P (f r)) → All P rs → All P (changed key n f rs)
+  pub all_changed : (P : R → Type 0) (n : ℕ) (f : R → R) (rs : List R) → ((r : R) → found key n rs ≡ Some r → P r → P (f r)) → AllByRecursion P rs → AllByRecursion P (changed key n f rs)
   all_changed P n f [] h a = tt
   all_changed P n f (r ∷ rs) h a = go (λ g. all_changed P n f rs g a.1) (eqb (key r) n) refl
     where
-      go : (((q : R) → found key n rs ≡ Some q → P q → P (f q)) → All P (changed key n f rs)) → (t : Bool) → eqb (key r) n ≡ t → All P (cond t (f r ∷ rs) (r ∷ changed key n f rs))
+      go : (((q : R) → found key n rs ≡ Some q → P q → P (f q)) → AllByRecursion P (changed key n f rs)) → (t : Bool) → eqb (key r) n ≡ t → AllByRecursion P (cond t (f r ∷ rs) (r ∷ changed key n f rs))
       go ih true e = (h r (ap (λ t. cond t (Some r) (found key n rs)) e) a.0, a.1)
       go ih false e = (a.0, ih (λ q u. h q (ap (λ t. cond t (Some r) (found key n rs)) e ∙ u)))
 
@@ -66,7 +66,7 @@ module _ {R : Type 0} (key : R → ℕ) where
       go ih true = omega arith
       go ih false = omega arith
 
-pub all_set : (P : ℕ → Type 0) (ws : List ℕ) (q v : ℕ) → All P ws → P v → All P (set ws q v)
+pub all_set : (P : ℕ → Type 0) (ws : List ℕ) (q v : ℕ) → AllByRecursion P ws → P v → AllByRecursion P (set ws q v)
 all_set P [] q v a h = tt
 all_set P (w ∷ ws) zero v a h = (h, a.1)
 all_set P (w ∷ ws) (suc q) v a h = (a.0, all_set P ws q v a.1 h)
@@ -213,24 +213,24 @@ plus_fits s (Ok (Second, n)) f h = record { charges = omega (arith, f.charges); 
 plus_fits s (Ok (Third, n)) f h = record { charges = omega (arith, f.charges); first = omega (arith, f.first); second = omega (arith, f.second); third = h (Third, n) refl }
 
 -- each line's sums are within the sums over all lines
-pub sums_each : (ls : List Line) → SumsFit (sums_over ls) → All (λ l. SumsFit l.sums) ls
+pub sums_each : (ls : List Line) → SumsFit (sums_over ls) → AllByRecursion (λ l. SumsFit l.sums) ls
 sums_each [] f = tt
 sums_each (k ∷ ls) f = (
   record { charges = omega (arith, f.charges); first = omega (arith, f.first); second = omega (arith, f.second); third = omega (arith, f.third) },
   sums_each ls (record { charges = omega (arith, f.charges); first = omega (arith, f.first); second = omega (arith, f.second); third = omega (arith, f.third) }),
 )
 
-pub lines_fit : (ls : List Line) → All Framed ls → All (λ l. SumsFit l.sums) ls → All LineFits ls
+pub lines_fit : (ls : List Line) → AllByRecursion Framed ls → AllByRecursion (λ l. SumsFit l.sums) ls → AllByRecursion LineFits ls
 lines_fit [] a f = tt
 lines_fit (k ∷ ls) a f = (
   record { party = a.0.party; sums = f.0; passed = a.0.passed; magnitude = a.0.magnitude; running = a.0.running },
   lines_fit ls a.1 f.1,
 )
 
-pub framed_blank : (ls : List Line) → All Framed ls → All Framed (map (λ l. blank l.party) ls)
+pub framed_blank : (ls : List Line) → AllByRecursion Framed ls → AllByRecursion Framed (map (λ l. blank l.party) ls)
 framed_blank [] a = tt
 framed_blank (k ∷ ls) a = (record { party = a.0.party; passed = omega arith; magnitude = omega arith; running = omega arith }, framed_blank ls a.1)
 
 -- an event's words have 32 bits
-pub words_fit : (e : Event) → Fits e → All (λ w. w < 4_294_967_296) (event_words e)
+pub words_fit : (e : Event) → Fits e → AllByRecursion (λ w. w < 4_294_967_296) (event_words e)
 words_fit e f = (omega (arith, f), (omega (arith, shifted_small e.x f.x), (omega (arith, shifted_small e.y f.y), tt)))

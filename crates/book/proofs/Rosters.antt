@@ -1,6 +1,6 @@
 -- The roster's lines, drawn from the parties in rising number. Assumes nothing.
 use Rattle.std.proofs.Common.{◌≡◌, ℕ, suc, ◌<◌, Bool, true, false, cond, ◌||◌, eqb, ltb, ◌⊎◌, List, [], ◌∷◌, map, Some, None, refl, ap, ◌∙◌, subst, ap₂, inl, inr, arith}
-use Rattle.std.specs.List.{ContainsAt as Has}
+use Rattle.std.specs.List.{ContainsAt}
 use Rattle.std.specs.List.Sorted.{IsPermutation}
 use Rattle.std.proofs.lemmas.List.Sorted.{IsPermutation-refl, IsPermutation-cons, IsPermutation-swap, IsPermutation-trans}
 use Rattle.std.proofs.lemmas.Bool.{eqb-true, eqb-false, ltb-true, ltb-false, or_parts}
@@ -91,14 +91,14 @@ module _ (s : Enrolment → Sums) (a m r : Enrolment → ℕ) where
 
   -- a line that is found is that of a party of the number
   pub found_drawn : (n : ℕ) (ps : List Enrolment) → (found number n (map (drawn s a m r) ps) ≡ None)
-      ⊎ ((q : Enrolment) × Has ps q × (q.number ≡ n) × (found number n (map (drawn s a m r) ps) ≡ Some (drawn s a m r q)))
+      ⊎ ((q : Enrolment) × ContainsAt ps q × (q.number ≡ n) × (found number n (map (drawn s a m r) ps) ≡ Some (drawn s a m r q)))
   found_drawn n [] = inl refl
   found_drawn n (p ∷ ps) = go (found_drawn n ps) (eqb p.number n) refl
     where
       go : ((found number n (map (drawn s a m r) ps) ≡ None)
-          ⊎ ((q : Enrolment) × Has ps q × (q.number ≡ n) × (found number n (map (drawn s a m r) ps) ≡ Some (drawn s a m r q)))) →
+          ⊎ ((q : Enrolment) × ContainsAt ps q × (q.number ≡ n) × (found number n (map (drawn s a m r) ps) ≡ Some (drawn s a m r q)))) →
           (t : Bool) → eqb p.number n ≡ t → (cond t (Some (drawn s a m r p)) (found number n (map (drawn s a m r) ps)) ≡ None)
-          ⊎ ((q : Enrolment) × Has (p ∷ ps) q × (q.number ≡ n) × (cond t (Some (drawn s a m r p)) (found number n (map (drawn s a m r) ps)) ≡ Some (drawn s a m r q)))
+          ⊎ ((q : Enrolment) × ContainsAt (p ∷ ps) q × (q.number ≡ n) × (cond t (Some (drawn s a m r p)) (found number n (map (drawn s a m r) ps)) ≡ Some (drawn s a m r q)))
       go ih true e = inr (p, (0, omega arith, λ d. refl), eqb-true _ _ e, refl)
       go (inl h) false e = inl h
       go (inr h) false e = inr (h.0, (suc h.1.0, omega (arith, h.1.1), h.1.2), h.2, h.3)

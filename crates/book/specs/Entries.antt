@@ -8,7 +8,7 @@ use Rattle.settlement.specs.Book.{State, no_book, in_month, published}
 use Rattle.book.specs.declared.call.Call.{Call}
 use Rattle.book.specs.declared.call.Call.TheVariants as call
 use Rattle.book.specs.declared.answer.Answer as answers
-use Rattle.book.specs.declared.answer.Answer.TheVariants.{Done, Placed, Posted as Posted-at, Sums, Settled, Refused}
+use Rattle.book.specs.declared.answer.Answer.TheVariants.{Done, Placed, Posted as PostedAt, Sums, Settled, Refused}
 use Rattle.book.specs.Runs.{Entry, New, Enrol, Read, Post, PayIn, Publish, Object, Answer, WhatIf, AccountSums, Settle}
 
 -- The call of an entry.
@@ -35,7 +35,7 @@ placed_of (Ok place) = Placed place
 placed_of (Err e) = Refused e
 
 abbrev pub posted_of : Result Posted Refusal → answers.Answer
-posted_of (Ok p) = Posted-at p
+posted_of (Ok p) = PostedAt p
 posted_of (Err e) = Refused e
 
 abbrev pub sums_of : Result (List ℕ) Refusal → answers.Answer

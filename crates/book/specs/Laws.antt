@@ -1,6 +1,6 @@
 -- What holds of every run, whatever the rulebook means within its limits. Assumes nothing.
 use Rattle.std.specs.Prelude.{◌≡◌, ℕ, ◌+◌, ◌<◌, ◌≤◌, List, ◌∷◌, ◌++◌, map, length, ℤ, pos, ◌-ℤ◌, Ok}
-use Rattle.std.specs.List.{ContainsAt as Has}
+use Rattle.std.specs.List.{ContainsAt}
 use Rattle.std.specs.List.Sorted.{IsPermutation}
 use Rattle.rules.specs.Answers.{Rulebook, Bounded}
 use Rattle.rules.specs.declared.facts.Facts.{Facts}
@@ -81,7 +81,7 @@ pub record LawfulSettling (means : Rulebook) (t : Trace) (s : Reckoning) : Type 
 pub record LawfulPosting (means : Rulebook) (t : Trace) (e : Event) (a : Posted) : Type 0 where
   pub next_place : a.place ≡ length (journal t)
   pub party : Enrolment
-  pub enrolled : Has (enrolments t) party
+  pub enrolled : ContainsAt (enrolments t) party
   pub named : party.number ≡ e.party
   pub meant : means (facts party (month t) e) ≡ Ok (a.account, a.amount)
   pub amount_within : a.amount ≤ 1_000_000_000
@@ -89,14 +89,14 @@ pub record LawfulPosting (means : Rulebook) (t : Trace) (e : Event) (a : Posted)
 -- Account sums, asked after the calls of a trace: what the rulebook means for these events of the party enrolled under the number.
 pub record LawfulSums (means : Rulebook) (t : Trace) (n : ℕ) (es : List Placed) (s : List ℕ) : Type 0 where
   pub party : Enrolment
-  pub enrolled : Has (enrolments t) party
+  pub enrolled : ContainsAt (enrolments t) party
   pub named : party.number ≡ n
   pub sums_are : s ≡ listed (worth_of means (month t) party es)
 
 -- The same as if the standing event at a place were struck.
 pub record LawfulWhatIf (means : Rulebook) (t : Trace) (place : ℕ) (s : List ℕ) : Type 0 where
   pub event : Placed
-  pub accepted : Has (standing t) event
+  pub accepted : ContainsAt (standing t) event
   pub there : event.place ≡ place
   pub sums : LawfulSums means t event.event.party (without place (standing t)) s
 

@@ -1,6 +1,6 @@
 -- The limits that the book keeps. Assumes nothing.
 use Rattle.std.specs.Prelude.{◌*◌, ◌<◌, ◌≤◌, length}
-use Rattle.std.specs.List.{AllByRecursion as All}
+use Rattle.std.specs.List.{AllByRecursion}
 use Rattle.rules.specs.declared.sums.Sums.{Sums}
 use Rattle.register.specs.Numbered.{Rising}
 use Rattle.records.specs.declared.enrolment.Enrolment.{Enrolment}
@@ -34,9 +34,9 @@ pub record LineFits (l : Line) : Type 0 where
 pub record BookFits (b : Book) : Type 0 where
   pub month_low : 24_000 ≤ b.month
   pub month_high : b.month ≤ 25_199
-  pub words : All (λ w. w < 4_294_967_296) b.words
+  pub words : AllByRecursion (λ w. w < 4_294_967_296) b.words
   pub words_used : length b.words ≤ 1_048_576
-  pub lines : All LineFits b.lines
+  pub lines : AllByRecursion LineFits b.lines
   pub rising : Rising number b.lines
   pub parties : length b.lines ≤ 64
   pub objections : length b.objections ≤ 16

@@ -2,7 +2,7 @@
 use Rattle.std.proofs.Common.{◌≡◌, ℕ, suc, ◌+◌, ◌*◌, ◌≤◌, Bool, true, false, cond, eqb, List, [], ◌∷◌, length, get_or, drop, pos, ◌-ℤ◌, nat_abs, Ok, Err, sym, subst, arith}
 use Rattle.std.proofs.lemmas.Int.{ints}
 use Rattle.std.proofs.lemmas.List.{length-append, length-set, get_or-drop}
-use Rattle.std.specs.List.{AllByRecursion as All}
+use Rattle.std.specs.List.{AllByRecursion}
 use Rattle.std.proofs.lemmas.Bool.{or_parts}
 use Rattle.rules.specs.Answers.{Answer, Rulebook, Bounded, place}
 use Rattle.rules.specs.Sums.{put, ◌plus◌}
@@ -82,9 +82,9 @@ words_few (in_month b) f = f.words_used
 words_few (published b) f = f.words_used
 
 -- the rows of a settling
-rows_fit : (ls : List Line) (a b c d : List ℕ) → All LineFits ls →
+rows_fit : (ls : List Line) (a b c d : List ℕ) → AllByRecursion LineFits ls →
     ((k : ℕ) → get_or a k 0 ≤ 40_000_000_000) → ((k : ℕ) → get_or b k 0 ≤ 40_000_000_000) → ((k : ℕ) → get_or c k 0 ≤ 40_000_000_000) → ((k : ℕ) → get_or d k 0 ≤ 40_000_000_000) →
-    All RowFits (bills_with ls a b c d)
+    AllByRecursion RowFits (bills_with ls a b c d)
 rows_fit [] a b c d f h1 h2 h3 h4 = tt
 rows_fit (l ∷ ls) a b c d f h1 h2 h3 h4 = (
   record {
@@ -107,7 +107,7 @@ rows_fit (l ∷ ls) a b c d f h1 h2 h3 h4 = (
     next : (xs : List ℕ) → ((k : ℕ) → get_or xs k 0 ≤ 40_000_000_000) → (k : ℕ) → get_or (drop 1 xs) k 0 ≤ 40_000_000_000
     next xs h k = subst (λ n. n ≤ 40_000_000_000) (sym (get_or-drop 1 xs k 0)) (h (1 + k))
 
-pub bills_fit : (m : ℕ) (b : Book) → BookFits b → lacks_weight m b.lines b.fund ≡ false → All RowFits (bills_of m b.lines b.fund)
+pub bills_fit : (m : ℕ) (b : Book) → BookFits b → lacks_weight m b.lines b.fund ≡ false → AllByRecursion RowFits (bills_of m b.lines b.fund)
 bills_fit m b f h =
     let d = dues_of b.lines b.fund in
     let h1 = or_parts _ _ h in

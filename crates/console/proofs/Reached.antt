@@ -1,7 +1,7 @@
 -- The answer to any call that a run leads to has room on a page. Assumes nothing.
 use Rattle.std.proofs.Common.{◌≡◌, ℕ, ◌≤◌, Bool, true, false, cond, List, [], ◌∷◌, map, length, take, Ok, Err, Result, sym, refl, ap, ◌∙◌, subst, append-nil, arith}
 use Rattle.std.proofs.lemmas.List.{length-map}
-use Rattle.std.specs.List.{AllByRecursion as All}
+use Rattle.std.specs.List.{AllByRecursion}
 use Rattle.rules.specs.Answers.{Rulebook}
 use Rattle.rules.specs.Sums.{listed}
 use Rattle.rules.specs.declared.refusal.Refusal.{Refusal}
@@ -36,12 +36,12 @@ module _ (means : Rulebook) (lim : WithinLimits means) (t : Trace) (s : State) (
 
   -- sums over events that the journal has words for
   sums_fit : (p : Enrolment) (es : List Placed) (ns : List ℕ) → length es ≤ length (journal t) → ns ≡ listed (worth_of means (month t) p es) →
-      (length ns ≡ 4) × All (λ n. n ≤ 1_048_576_000_000_000) ns
+      (length ns ≡ 4) × AllByRecursion (λ n. n ≤ 1_048_576_000_000_000) ns
   sums_fit p es ns h is =
       let events = map (λ e. e.event) es in
       let w = worth_small means lim (month t) p events in
       let n : length events ≤ 1_048_576 = omega (arith, length-map es (λ e. e.event), few) in
-      subst (λ ms. (length ms ≡ 4) × All (λ k. k ≤ 1_048_576_000_000_000) ms) (sym is)
+      subst (λ ms. (length ms ≡ 4) × AllByRecursion (λ k. k ≤ 1_048_576_000_000_000) ms) (sym is)
       (refl, (omega (arith, w.charges, n), (omega (arith, w.first, n), (omega (arith, w.second, n), (omega (arith, w.third, n), tt)))))
 
   entry_fits : (room : Room) (s' : State) (e : Entry) (sheet : List Bill) → Step means room s e s' → rows_of e ≡ take (length (rows_of e)) sheet → AnswerFits (answer_of e) sheet
@@ -78,7 +78,7 @@ module _ (means : Rulebook) (lim : WithinLimits means) (t : Trace) (s : State) (
             few-rows,
             omega (arith, step.answers.left_is, f.fund),
             subst (λ rs. length rs ≤ 64) billed few-rows,
-            subst (All RowFits) (sym step.answers.rows_are ∙ billed) rows,
+            subst (AllByRecursion RowFits) (sym step.answers.rows_are ∙ billed) rows,
           )
       settled_fits room s s' r sheet f (settle {s = published _} step) billed = absurd step
       settled_fits room s s' r sheet f (settle {s = no_book} step) billed = absurd step

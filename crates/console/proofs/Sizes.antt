@@ -1,6 +1,6 @@
 -- How long the text of an answer can be. Assumes nothing.
 use Rattle.std.proofs.Common.{◌≡◌, ℕ, suc, ◌+◌, ◌*◌, ◌^◌, ◌<◌, ◌≤◌, true, List, [], ◌∷◌, ◌++◌, length, take, ℤ, pos, negsuc, nat_abs, is_some, Some, None, codes, decimal, Option, refl, arith}
-use Rattle.std.specs.List.{AllByRecursion as All}
+use Rattle.std.specs.List.{AllByRecursion}
 use Rattle.std.proofs.lemmas.List.{length-append}
 use Rattle.std.proofs.lemmas.Fmt.{length-decimal-le}
 use Rattle.rules.specs.Answers.{place}
@@ -30,8 +30,8 @@ abbrev pub AnswerFits : Answer → List Bill → Type 0
 AnswerFits Done sheet = Unit {0}
 AnswerFits (Placed at) sheet = at ≤ 1_048_576
 AnswerFits (Posted p) sheet = (p.place ≤ 1_048_576) × (p.amount ≤ 1_000_000_000)
-AnswerFits (Sums ns) sheet = (length ns ≡ 4) × All (λ n. n ≤ 1_048_576_000_000_000) ns
-AnswerFits (Settled t) sheet = (t.rows ≤ 64) × (t.left ≤ 40_000_000_000) × (length (take t.rows sheet) ≤ 64) × All RowFits (take t.rows sheet)
+AnswerFits (Sums ns) sheet = (length ns ≡ 4) × AllByRecursion (λ n. n ≤ 1_048_576_000_000_000) ns
+AnswerFits (Settled t) sheet = (t.rows ≤ 64) × (t.left ≤ 40_000_000_000) × (length (take t.rows sheet) ≤ 64) × AllByRecursion RowFits (take t.rows sheet)
 AnswerFits (Refused e) sheet = Unit {0}
 AnswerFits Misplaced sheet = Unit {0}
 
@@ -73,11 +73,11 @@ line_long b f =
     (joined_long (field b.returned) _ 12 15 (eleven b.returned f.returned)
     (joined_long (net b.net) (10 ∷ []) 14 1 last (omega arith))))))))
 
-lines_long : (bs : List Bill) → All RowFits bs → length (lines bs) ≤ 92 * length bs
+lines_long : (bs : List Bill) → AllByRecursion RowFits bs → length (lines bs) ≤ 92 * length bs
 lines_long [] a = omega arith
 lines_long (b ∷ bs) a = omega (arith, length-append (line b) (lines bs), line_long b a.0, lines_long bs a.1)
 
-sums_long : (ns : List ℕ) → All (λ n. n ≤ 1_048_576_000_000_000) ns → length (sums ns) ≤ 17 * length ns
+sums_long : (ns : List ℕ) → AllByRecursion (λ n. n ≤ 1_048_576_000_000_000) ns → length (sums ns) ≤ 17 * length ns
 sums_long [] a = omega arith
 sums_long (n ∷ ns) a =
     let small : n < 10_000_000_000_000_000 = omega (arith, a.0) in

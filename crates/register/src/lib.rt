@@ -61,8 +61,8 @@ impl<'a, R: Keyed + Copy, const LIMIT: usize> Register<'a, R, LIMIT> {
 
     // The first line with that number; where lines rise, the only one.
     pub fn find(&self, number: u32) -> Option<usize>
-        ensures first { result ≡ first_at R.Keyed.number number (held self.now) }
-        ensures only { Rising R.Keyed.number (held self.now) → IfSome result (Only R.Keyed.number number (held self.now)) }
+        ensures first { result ≡ first_at R.number number (held self.now) }
+        ensures only { Rising R.number (held self.now) → IfSome result (Only R.number number (held self.now)) }
     {
         find_in(self.held(), number)
     }
@@ -81,7 +81,7 @@ impl<'a, R: Keyed + Copy, const LIMIT: usize> Register<'a, R, LIMIT> {
 
     // Where the first line with a larger number stands.
     fn place(&self, number: u32) -> usize
-        ensures place { result ≡ place_at R.Keyed.number number (held self.now) }
+        ensures place { result ≡ place_at R.number number (held self.now) }
         ensures within { result ≤ count self.now }
     {
         place_in(self.held(), number)
@@ -89,8 +89,8 @@ impl<'a, R: Keyed + Copy, const LIMIT: usize> Register<'a, R, LIMIT> {
 
     // Puts the line in front of the first one with a larger number.
     pub fn insert(&mut self, line: R) -> Result<usize, Full>
-        ensures inserts { Insertion R.Keyed.number self.old self.new line result }
-        ensures rises { Rises R.Keyed.number self.old self.new line }
+        ensures inserts { Insertion R.number self.old self.new line result }
+        ensures rises { Rises R.number self.old self.new line }
         ensures kept { Kept self.old self.new }
     {
         let n = self.count();
@@ -107,7 +107,7 @@ impl<'a, R: Keyed + Copy, const LIMIT: usize> Register<'a, R, LIMIT> {
     // Takes the line out, and lays it right past the lines in use; where there is none, nothing changes.
     pub fn remove(&mut self, i: usize)
         ensures holds { held self.new ≡ without (held self.old) i }
-        ensures rises { StaysRising R.Keyed.number self.old self.new }
+        ensures rises { StaysRising R.number self.old self.new }
         ensures past { LaidBy i self.old self.new }
         ensures kept { Kept self.old self.new }
     {
@@ -121,7 +121,7 @@ impl<'a, R: Keyed + Copy, const LIMIT: usize> Register<'a, R, LIMIT> {
     // Puts another line in the place of one; where there is none, nothing changes.
     pub fn replace(&mut self, i: usize, line: R)
         ensures holds { held self.new ≡ slice_set (held self.old) i line }
-        ensures rises { IfSome (slice_get (held self.old) i) (λ old. R.Keyed.number line ≡ R.Keyed.number old) → StaysRising R.Keyed.number self.old self.new }
+        ensures rises { IfSome (slice_get (held self.old) i) (λ old. R.number line ≡ R.number old) → StaysRising R.number self.old self.new }
         ensures kept { Kept self.old self.new }
     {
         if i < self.count() {
@@ -132,7 +132,7 @@ impl<'a, R: Keyed + Copy, const LIMIT: usize> Register<'a, R, LIMIT> {
     // Takes all lines out of use; what they hold stays in the memory.
     pub fn clear(&mut self)
         ensures holds { held self.new ≡ [] }
-        ensures rises { StaysRising R.Keyed.number self.old self.new }
+        ensures rises { StaysRising R.number self.old self.new }
         ensures lines { self.new.lines ≡ self.old.lines }
         ensures kept { Kept self.old self.new }
     {
