@@ -1,7 +1,7 @@
 // Voltage control, a service that the part does not have: paid by capacity and hours in service.
 ghost use Rattle.rules.specs.Services.{answer};
+ghost use Rattle.rules.specs.Bounds.{answer_bounded};
 ghost use Rattle.buyer_rules.specs.Voltage.{voltage_control};
-ghost use Rattle.std.proofs.Common.{rules};
 
 use rules::account::Account;
 use rules::ceiling::up_to_ceiling;
@@ -17,7 +17,7 @@ pub struct VoltageControl;
 impl Rule for VoltageControl {
     ghost meaning = { λ _ facts. answer voltage_control facts };
 
-    ghost bounded = { Prim.search rules };
+    ghost bounded = { λ rule facts. answer_bounded voltage_control facts };
 
     fn ask(&self, facts: &Facts) -> Result<(Account, u32), Refusal> {
         if !facts.named_by(10, &[Kind::Coal, Kind::Gas, Kind::Hydro]) {

@@ -2,7 +2,7 @@
 ghost use Rattle.std.specs.Prelude.{◌≡◌, ◌≤◌, Ok, Err};
 ghost use Rattle.rules.specs.declared.refusal.Refusal.TheVariants.{OutOfRange};
 ghost use Rattle.rules.specs.Layers.{capped};
-ghost use Rattle.std.proofs.Common.{rules, arith};
+ghost use Rattle.std.proofs.Common.{rules};
 
 use crate::account::Account;
 use crate::facts::Facts;
@@ -38,9 +38,9 @@ impl<R: Drop> Cap<R> {
 }
 
 impl<R: Rule> Rule for Cap<R> {
-    ghost meaning = { λ layer facts. capped layer.limit (R.Rule.meaning layer.rule facts) };
+    ghost meaning = { λ layer facts. capped layer.limit (R.meaning layer.rule facts) };
 
-    ghost bounded = { first_of (Prim.search rules, Prim.grind (arith, Self.row.coded.inj)) };
+    ghost bounded = { Prim.search rules };
 
     fn ask(&self, facts: &Facts) -> Result<(Account, u32), Refusal> {
         let (account, amount) = self.rule.ask(facts)?;

@@ -14,7 +14,7 @@ pub struct Chapters<A, B> {
 }
 
 impl<A: Rule, B: Rule> Rule for Chapters<A, B> {
-    ghost meaning = { λ both facts. or_else (A.Rule.meaning both.first facts) (B.Rule.meaning both.second facts) };
+    ghost meaning = { λ both facts. or_else (A.meaning both.first facts) (B.meaning both.second facts) };
 
     ghost bounded = { Prim.search rules };
 

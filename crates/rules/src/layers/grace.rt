@@ -15,7 +15,7 @@ pub struct Grace<R> {
 }
 
 impl<R: Rule> Rule for Grace<R> {
-    ghost meaning = { λ layer facts. grace layer.before facts (R.Rule.meaning layer.rule facts) };
+    ghost meaning = { λ layer facts. grace layer.before facts (R.meaning layer.rule facts) };
 
     ghost bounded = { Prim.search rules };
 

@@ -14,7 +14,7 @@ pub struct Season<R> {
 }
 
 impl<R: Rule> Rule for Season<R> {
-    ghost meaning = { λ layer facts. season facts (R.Rule.meaning layer.rule facts) };
+    ghost meaning = { λ layer facts. season facts (R.meaning layer.rule facts) };
 
     ghost bounded = { Prim.search rules };
 
