@@ -6,7 +6,7 @@ use Rattle.std.proofs.lemmas.List.{map-append, take-map, drop-map}
 use Rattle.register.specs.Numbered.{first_from, place_from}
 use Rattle.settlement.specs.Registers.{has, found, entered, changed}
 use Rattle.settlement.specs.Registers as by
-use Rattle.settlement.specs.Finding.{Found_at, Absent}
+use Rattle.settlement.specs.Finding.{FoundAt, Absent}
 
 some_same : {X : Type 0} (x y : X) → Some x ≡ Some y → x ≡ y
 some_same x y e = cc
@@ -38,12 +38,12 @@ module _ {R S : Type 0} (key : S → ℕ) (f : R → S) where
             none = ap (λ t. cond t (Some (f r)) (found key n (map f rs))) q ∙ a.none;
           }
 
-  found_from : (n j i : ℕ) (rs : List R) (x : R) → first_from (λ r. key (f r)) n j rs ≡ Some (j + i) → slice_get rs i ≡ Some x → Found_at key n (map f rs) i (f x)
+  found_from : (n j i : ℕ) (rs : List R) (x : R) → first_from (λ r. key (f r)) n j rs ≡ Some (j + i) → slice_get rs i ≡ Some x → FoundAt key n (map f rs) i (f x)
   found_from n j i [] x e h = absurd (apart x h)
   found_from n j i (r ∷ rs) x e h = go (λ k u v. found_from n (j + 1) k rs x u v) (eqb (key (f r)) n) refl i e h
     where
-      go : ((k : ℕ) → first_from (λ r. key (f r)) n (j + 1) rs ≡ Some (j + 1 + k) → slice_get rs k ≡ Some x → Found_at key n (map f rs) k (f x)) → (t : Bool) → eqb (key (f r)) n ≡ t →
-          (i : ℕ) → cond t (Some j) (first_from (λ r. key (f r)) n (j + 1) rs) ≡ Some (j + i) → slice_get (r ∷ rs) i ≡ Some x → Found_at key n (f r ∷ map f rs) i (f x)
+      go : ((k : ℕ) → first_from (λ r. key (f r)) n (j + 1) rs ≡ Some (j + 1 + k) → slice_get rs k ≡ Some x → FoundAt key n (map f rs) k (f x)) → (t : Bool) → eqb (key (f r)) n ≡ t →
+          (i : ℕ) → cond t (Some j) (first_from (λ r. key (f r)) n (j + 1) rs) ≡ Some (j + i) → slice_get (r ∷ rs) i ≡ Some x → FoundAt key n (f r ∷ map f rs) i (f x)
       go ih true q zero u v =
           let same : r ≡ x = some_same r x v in
           record {
@@ -69,7 +69,7 @@ module _ {R S : Type 0} (key : S → ℕ) (f : R → S) where
   pub none_at : (n : ℕ) (rs : List R) → None ≡ first_from (λ r. key (f r)) n 0 rs → Absent key n (map f rs)
   none_at n rs e = none_from n 0 rs (sym e)
 
-  pub found_at : (n i : ℕ) (rs : List R) (x : R) → Some i ≡ first_from (λ r. key (f r)) n 0 rs → Some x ≡ slice_get rs i → Found_at key n (map f rs) i (f x)
+  pub found_at : (n i : ℕ) (rs : List R) (x : R) → Some i ≡ first_from (λ r. key (f r)) n 0 rs → Some x ≡ slice_get rs i → FoundAt key n (map f rs) i (f x)
   found_at n i rs x e h = let same : i ≡ 0 + i = omega arith in found_from n 0 i rs x (sym e ∙ ap Some same) (sym h)
 
   -- a place that was found has a record
@@ -128,8 +128,8 @@ module _ {R : Type 0} (key : R → ℕ) where
   pub none_here : (n : ℕ) (rs : List R) → None ≡ first_from key n 0 rs → Absent key n rs
   none_here n rs e = subst (Absent key n) (map_same rs) (none_at key (λ r. r) n rs e)
 
-  pub record_here : (n i : ℕ) (rs : List R) (x : R) → Some i ≡ first_from key n 0 rs → Some x ≡ slice_get rs i → Found_at key n rs i x
-  record_here n i rs x e h = subst (λ ys. Found_at key n ys i x) (map_same rs) (found_at key (λ r. r) n i rs x e h)
+  pub record_here : (n i : ℕ) (rs : List R) (x : R) → Some i ≡ first_from key n 0 rs → Some x ≡ slice_get rs i → FoundAt key n rs i x
+  record_here n i rs x e h = subst (λ ys. FoundAt key n ys i x) (map_same rs) (found_at key (λ r. r) n i rs x e h)
 
   pub found_here : (n i : ℕ) (rs : List R) → Some i ≡ first_from key n 0 rs → has key n rs ≡ true
   found_here n i rs e = go (slice_get rs i) refl

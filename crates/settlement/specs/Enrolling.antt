@@ -1,5 +1,5 @@
 -- A new book, enrolling a party, and reading its power. Assumes nothing.
-use Rattle.std.specs.Prelude.{ℕ, min, Bool, false, not, ◌&&◌, ◌||◌, leb, List, [], ◌∷◌, length, pos, is_some, Some, None, Option, Result, int_lt, nat_le, nat_lt, unsigned_abs}
+use Rattle.std.specs.Prelude.{ℕ, min, Bool, false, not, ◌&&◌, ◌||◌, List, [], ◌∷◌, length, pos, is_some, Some, None, Option, Result, int_lt, nat_le, nat_lt, unsigned_abs}
 use Rattle.rules.specs.declared.refusal.Refusal.{Refusal}
 use Rattle.rules.specs.declared.refusal.Refusal.TheVariants.{UnknownParty, EnrolledAlready, RosterFull, OutOfRange, SlotPassed}
 use Rattle.rules.specs.declared.kind.Kind.{Kind}
@@ -21,7 +21,7 @@ abbrev pub enrol_checks : Room → (number kind capacity : ℕ) → Book → Lis
 enrol_checks room n k c b =
     (OutOfRange when not (fits n c && is_some (kind_of k)))
     ∷ (EnrolledAlready when has number n b.lines)
-    ∷ (RosterFull when leb (min 64 room.roster) (length b.lines))
+    ∷ (RosterFull when nat_le (min 64 room.roster) (length b.lines))
     ∷ []
 
 -- The party gets a line in the order of numbers.

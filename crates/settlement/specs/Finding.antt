@@ -1,6 +1,6 @@
 -- What is known of a line that was looked for by its number. Assumes nothing.
 use Rattle.std.specs.Prelude.{◌≡◌, ℕ, min, Bool, true, false, List, length, Some, None, Option, nat_le, slice_set}
-use Rattle.std.specs.List.{remove as removed}
+use Rattle.std.specs.List.{remove}
 use Rattle.register.specs.declared.Register.{Register}
 use Rattle.register.specs.Held.{room}
 use Rattle.billing.specs.declared.party.Party.{Party}
@@ -9,12 +9,12 @@ use Rattle.billing.specs.Lent.{line_of, lines_of}
 use Rattle.settlement.specs.Registers as by
 
 -- The record at the place i is the first of the number n; to change or to remove the record of the number is to do so there.
-pub record Found_at {R : Type 0} (key : R → ℕ) (n : ℕ) (rs : List R) (i : ℕ) (r : R) : Type 0 where
+pub record FoundAt {R : Type 0} (key : R → ℕ) (n : ℕ) (rs : List R) (i : ℕ) (r : R) : Type 0 where
   pub there : by.has key n rs ≡ true
   pub named : key r ≡ n
   pub first : by.found key n rs ≡ Some r
   pub change : (f : R → R) → by.changed key n f rs ≡ slice_set rs i (f r)
-  pub remove : by.removed key n rs ≡ removed rs i
+  pub remove : by.removed key n rs ≡ remove rs i
 
 -- There is none.
 pub record Absent {R : Type 0} (key : R → ℕ) (n : ℕ) (rs : List R) : Type 0 where
@@ -24,7 +24,7 @@ pub record Absent {R : Type 0} (key : R → ℕ) (n : ℕ) (rs : List R) : Type 
 -- a party's line, with its place, or that there is none
 abbrev pub LineFound : ℕ → List Line → Option (ℕ × Party) → Type 0
 LineFound n ls None = Absent number n ls
-LineFound n ls (Some at) = Found_at number n ls at.0 (line_of at.1)
+LineFound n ls (Some at) = FoundAt number n ls at.0 (line_of at.1)
 
 -- The line stands in the order of numbers.
 pub record EnteredLine (party : Party) (before after : Register Party 64) : Type 0 where

@@ -1,5 +1,5 @@
 -- Objecting to an event of the published month, and answering the objection. Assumes nothing.
-use Rattle.std.specs.Prelude.{ℕ, min, Bool, true, false, not, ◌&&◌, leb, List, [], ◌∷◌, ◌++◌, length, Some, None, Ok, Err, Option, Result, nat_le}
+use Rattle.std.specs.Prelude.{ℕ, min, Bool, true, false, not, ◌&&◌, List, [], ◌∷◌, ◌++◌, length, Some, None, Ok, Err, Option, Result, nat_le}
 use Rattle.rules.specs.declared.refusal.Refusal.{Refusal}
 use Rattle.rules.specs.declared.refusal.Refusal.TheVariants.{ObjectedAlready, ObjectionsFull, NoOpenObjection, OutOfStep}
 use Rattle.rules.specs.Answers.{Answer, Rulebook}
@@ -19,7 +19,7 @@ use Rattle.settlement.specs.Asking.{standing_checks}
 abbrev pub object_checks : Room → ℕ → Book → List Check
 object_checks room place b = standing_checks room place b ++ (
     (ObjectedAlready when has place_of place b.objections)
-    ∷ (ObjectionsFull when leb (min 16 room.objecting) (length b.objections))
+    ∷ (ObjectionsFull when nat_le (min 16 room.objecting) (length b.objections))
     ∷ [])
 
 -- The objection gets a line in the order of places, and waits for its answer.

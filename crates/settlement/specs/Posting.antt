@@ -1,5 +1,5 @@
 -- Posting an event, and paying money into the fund. Assumes nothing.
-use Rattle.std.specs.Prelude.{◌≡◌, ℕ, ◌+◌, Bool, true, false, not, ◌||◌, ltb, List, [], ◌∷◌, ◌++◌, length, Some, None, Ok, Err, Option, Result, nat_le, nat_lt, unsigned_abs}
+use Rattle.std.specs.Prelude.{◌≡◌, ℕ, ◌+◌, Bool, true, false, not, ◌||◌, List, [], ◌∷◌, ◌++◌, length, Some, None, Ok, Err, Option, Result, nat_le, nat_lt, unsigned_abs}
 use Rattle.rules.specs.declared.refusal.Refusal.{Refusal}
 use Rattle.rules.specs.declared.refusal.Refusal.TheVariants.{UnknownParty, OutOfRange, NotCovered, AccountFull, JournalFull, PostedAlready, FundFull, OutOfStep}
 use Rattle.rules.specs.Answers.{Answer, Rulebook}
@@ -82,7 +82,7 @@ abbrev pub pay_in_checks : Room → ℕ → Book → List Check
 pay_in_checks room amount b =
     (OutOfStep when cut_short room.journal b)
     ∷ (OutOfRange when not (within 1 500_000_000 amount))
-    ∷ (FundFull when ltb 40_000_000_000 (b.fund + amount))
+    ∷ (FundFull when nat_lt 40_000_000_000 (b.fund + amount))
     ∷ (JournalFull when lacks_room room.journal 1 b)
     ∷ []
 

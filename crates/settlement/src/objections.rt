@@ -1,5 +1,5 @@
 // The objections as the calls use them: by the place of the event.
-ghost use Rattle.std.specs.Prelude.{◌≡◌, false, set};
+ghost use Rattle.std.specs.Prelude.{◌≡◌, false, slice_set};
 ghost use Rattle.std.specs.List.{remove};
 ghost use Rattle.register.specs.Held.{held, Kept, LaidBy};
 ghost use Rattle.settlement.specs.Registers.{has};
@@ -50,7 +50,7 @@ pub(crate) fn pending(objections: &Objections, place: u32) -> Option<usize>
 
 // Keeps the line, which waits no more.
 pub(crate) fn dismiss(objections: &mut Objections, i: usize, place: u32)
-    ensures lines { held objections.new ≡ set (held objections.old) i (record { place = place; waiting = false }) }
+    ensures lines { held objections.new ≡ slice_set (held objections.old) i (record { place = place; waiting = false }) }
     ensures kept { Kept objections.old objections.new }
 {
     let objection = Objection {
