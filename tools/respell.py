@@ -2,10 +2,10 @@
 """Brings the names of specs/ and proofs/ to snake case, and those of types to camel case, in all crates: new-checks becomes new_checks,
 Pay-in becomes PayIn. Names of src/, goals and names of the library stay.
 
-usage: python3 tools/respell.py [--list]    at the top of the repository, once, after the port of the kit
+usage: python3 tools/respell.py [--list | --anyway]    at the top of the repository, once, after the port of the kit
 
 It works on whole words, outside comments, in .rt and .antt files and in the lines 'old:' and 'new:' of must-fail edits. A name that would
-fall together with a word that stands in one of the files where it is used is printed; nothing is written then.
+fall together with a word that stands in one of the files where it is used is printed; nothing is written then but with --anyway.
 """
 
 import os
@@ -17,8 +17,6 @@ WORD = re.compile(r"[^" + ENDS + r"]+")
 DECLARED = re.compile(r"^\s*(?:(?:abbrev|unfoldable|pub)\s+)*([^" + ENDS + r":]+)\s*:(?!:)\s*(.*)$")
 TYPE = re.compile(r"^\s*(?:pub\s+)?(?:record|data)\s+([^" + ENDS + r":]+)")
 LIBRARY = re.compile(r"use (?:Rattle\.std|borrow|Prim|mathlib|native|lib)\b.*")
-# these stand in a file beside a word that they would fall together with
-KEPT_APART = {}
 
 
 def files(root):
@@ -70,7 +68,7 @@ def main():
         for line in open(path, encoding="utf-8"):
             for used in LIBRARY.findall(line):
                 library.update(WORD.findall(used))
-    new = {name: KEPT_APART.get(name) or respelled(name, is_type) for name, is_type in kinds.items() if name not in library}
+    new = {name: respelled(name, is_type) for name, is_type in kinds.items() if name not in library}
     for name in sorted(set(kinds) & library):
         print("the library's too, so it stays:", name)
     if "--list" in sys.argv:
