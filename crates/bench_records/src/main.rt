@@ -8,7 +8,7 @@ ghost use Rattle.std.proofs.Common.{rules};
 use records::enrolment::Enrolment;
 use records::event::Event;
 use records::journal::append;
-use records::sums::account_sums;
+use records::sums::PartyMonth;
 use rules::account::Account;
 use rules::facts::Facts;
 use rules::kind::Kind;
@@ -48,7 +48,7 @@ fn fill(words: &mut [u32]) -> usize {
             y: 1_200,
         };
         if let Some(three) = event.words() {
-            if append(words, used, &three) {
+            if append(words, used, &three).is_ok() {
                 used += 3;
             }
         }
@@ -66,8 +66,12 @@ fn main(rt: HostRuntime) -> io::Result<()> {
             kind: Kind::Coal,
             capacity: 300_000,
         };
-        let mut sums = [0; 4];
-        account_sums(&words, used, JUNE_2025, &party, &OneFen, &mut sums);
+        let month = PartyMonth {
+            party: &party,
+            count: JUNE_2025,
+            rulebook: &OneFen,
+        };
+        let sums = month.account_sums(&words, used);
         found = found.wrapping_add(sums[1]);
     }
     println!(rt; "{SCANS} scans of {used} words found {found} events")

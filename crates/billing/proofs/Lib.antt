@@ -5,3 +5,4 @@ pub mod Columns
 pub mod Rows
 pub mod Lacking
 pub mod Sheets
+pub mod Made

@@ -1,15 +1,15 @@
 // The sharing of a pool by weight: each party's share is the step of what has been given.
-ghost use Rattle.std.specs.Prelude.{◌≡◌, ◌+◌, ◌≤◌, [], ◌∷◌, length, IfSome, if◌then◌else◌, Some, None, OnOk};
+ghost use Rattle.std.specs.Prelude.{◌≡◌, ◌+◌, ◌≤◌, [], ◌∷◌, length, IfOk, if◌then◌else◌, Ok, Err, OnOk};
+ghost use Rattle.rules.specs.declared.refusal.Refusal.TheVariants.{OutOfRange};
 ghost use Rattle.billing.specs.Giving.{too_heavy, ShareOut};
 ghost use Rattle.billing.specs.Sharing.{part, step, total, shares_from, shares, Fair};
 
+use crate::party::MOST_PARTIES;
 use crate::sums::MOST_SUM;
 use rules::refusal::Refusal;
 
 // What one party may weigh: 4,000,000 kW through a month of 8,928 slots.
 const MOST_WEIGHT: u32 = 2_976_000;
-
-const MOST_PARTIES: usize = 64;
 
 // A sharing in progress: the parties that have taken their part have the weight `passed` of the `whole`.
 #[derive(Drop)]
@@ -53,33 +53,35 @@ impl Sharing {
         self.given = given;
         share
     }
+
+    // Writes the share of each weight.
+    fn give(mut self, weights: &[u32], shares: &mut [u64])
+        requires long { length shares.old ≡ length weights.now }
+        requires whole { self.passed + total weights.now ≡ self.whole }
+        ensures { shares.new ≡ shares_from self.pool self.whole self.passed weights.now }
+    {
+        // kept: a `for` over `iter_mut()` beside a second iterator is no plainer, and of shares written through `zip` a proof knows none
+        for (i, weight) in weights.iter().enumerate() {
+            shares[i] = self.next(*weight);
+        }
+    }
 }
 
 // The weights together, if none is above that of one party.
-fn whole_weight(weights: &[u32]) -> Option<u64>
+fn whole_weight(weights: &[u32]) -> Result<u64, Refusal>
     requires { length weights.now ≤ 64 }
-    ensures whole { result ≡ (if too_heavy weights.now then None else Some (total weights.now)) }
-    ensures most { IfSome result (λ whole. whole ≤ 190_464_000) }
+    ensures whole { result ≡ (if too_heavy weights.now then Err OutOfRange else Ok (total weights.now)) }
+    ensures most { IfOk result (λ whole. whole ≤ 190_464_000) }
 {
     let mut whole = 0;
+    // kept: one pass that tests and adds; `any` and then `sum` are two
     for weight in weights {
         if *weight > MOST_WEIGHT {
-            return None;
+            return Err(Refusal::OutOfRange);
         }
         whole += *weight as u64;
     }
-    Some(whole)
-}
-
-// Writes the share of each weight.
-fn give(mut sharing: Sharing, weights: &[u32], shares: &mut [u64])
-    requires long { length shares.old ≡ length weights.now }
-    requires whole { sharing.passed + total weights.now ≡ sharing.whole }
-    ensures { shares.new ≡ shares_from sharing.pool sharing.whole sharing.passed weights.now }
-{
-    for (i, weight) in weights.iter().enumerate() {
-        shares[i] = sharing.next(*weight);
-    }
+    Ok(whole)
 }
 
 // Shares a pool out over weights, in their order. What is out of range or has no weight to go by is refused, and nothing changes.
@@ -90,13 +92,11 @@ pub fn share_out(pool: u64, weights: &[u32], shares: &mut [u64]) -> Result<(), R
     if pool > MOST_SUM || weights.len() != shares.len() || shares.len() > MOST_PARTIES {
         return Err(Refusal::OutOfRange);
     }
-    let Some(whole) = whole_weight(weights) else {
-        return Err(Refusal::OutOfRange);
-    };
+    let whole = whole_weight(weights)?;
     if pool > 0 && whole == 0 {
         return Err(Refusal::NoWeight);
     }
-    give(Sharing::over(pool, whole), weights, shares);
+    Sharing::over(pool, whole).give(weights, shares);
     Ok(())
 }
 

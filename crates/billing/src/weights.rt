@@ -1,4 +1,5 @@
 // The weights by which a party takes its part of what is shared.
+// kept: a weight is a plain number in each answer, and any number may be one where a pool is shared out, so its bound stands in the clauses
 ghost use Rattle.std.specs.Prelude.{◌≡◌, ◌*◌, ◌/◌, ◌≤◌};
 ghost use Rattle.billing.specs.Bills.{line_weights};
 ghost use Rattle.billing.specs.Filling.{weight_on};
@@ -52,8 +53,7 @@ impl Party {
             (Account::Charges, _) => self.running_weight(month),
             (Account::First, _) => self.energy_weight(),
             (Account::Second, Kind::Market) => self.energy_weight(),
-            (Account::Third, Kind::Wind) => self.energy_weight(),
-            (Account::Third, Kind::Solar) => self.energy_weight(),
+            (Account::Third, Kind::Wind | Kind::Solar) => self.energy_weight(),
             _ => 0,
         }
     }

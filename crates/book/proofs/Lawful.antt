@@ -1,9 +1,10 @@
 -- Every run is lawful, by induction over the run. Assumes nothing.
-use Rattle.std.proofs.Common.{◌≡◌, ℕ, suc, ◌≤◌, Bool, true, false, cond, eqb, ◌⊎◌, List, [], ◌∷◌, ◌++◌, map, length, get_or, ℤ, pos, ◌+ℤ◌, ◌-ℤ◌, is_some, Some, None, Ok, Err, Option, sym, refl, ap, ◌∙◌, subst, ap₂, subst₂, inl, inr, arith}
+use Rattle.std.proofs.Common.{◌≡◌, ℕ, suc, ◌≤◌, Bool, true, false, cond, eqb, ◌⊎◌, List, [], ◌∷◌, ◌++◌, map, length, get_or, ℤ, pos, ◌+ℤ◌, ◌-ℤ◌, is_some, Some, None, Ok, Err, Option, Result, sym, refl, ap, ◌∙◌, subst, ap₂, subst₂, inl, inr, arith}
 use Rattle.std.specs.List.{ContainsAt}
 use Rattle.std.proofs.lemmas.List.Sorted.{IsPermutation-sym}
 use Rattle.std.proofs.ByRecursion.{has_shuffled}
 use Rattle.std.proofs.lemmas.Int.{ints}
+use Rattle.rules.specs.declared.refusal.Refusal.{Refusal}
 use Rattle.rules.specs.declared.refusal.Refusal.TheVariants.{UnknownParty}
 use Rattle.rules.specs.Answers.{Rulebook, Bounded}
 use Rattle.rules.specs.declared.sums.Sums.{Sums}
@@ -36,7 +37,10 @@ use Rattle.book.specs.Runs.{Entry, Post, PayIn, WhatIf, AccountSums, Settle, Tra
 use Rattle.book.specs.History.{Placed, enrolled_as, month_with, enrolments_with, readings_with, standing_with, journal_with, money_with, bills_by, paid_in_with, month, enrolments, readings, without, standing, paid_in, money, bills, journal, worth_of, magnitude, running_slots, passed, line_of, sorted}
 use Rattle.book.specs.Limits.{BookFits, StateFits}
 use Rattle.book.specs.Laws.{WithinLimits, sums_of, weights, FundPays, net_due, LawfulSettling, LawfulPosting, LawfulSums, LawfulWhatIf, RunsWithinLimits, RunsLawful}
-use Rattle.book.specs.Serving.{Steps}
+use Rattle.book.specs.Serving.{Steps, Served, Carries}
+use Rattle.book.specs.declared.call.Call.{Call}
+use Rattle.book.specs.declared.answer.Reply.{Reply}
+use Rattle.book.specs.declared.answer.Denial.{Denial}
 use Rattle.book.proofs.Rosters.{rising_drawn, shuffled_sorted, found_drawn}
 use Rattle.book.proofs.Limiting.{sums_each, lines_fit}
 use Rattle.book.proofs.Fitting.{Held, held_new, held_enrol, held_read, held_post, held_pay_in, held_object, held_dismiss, held_uphold, held_settle}
@@ -441,6 +445,12 @@ every_run_lawful means limits t s run =
 pub carry : (means : Rulebook) (room : Room) (before after : State) (added : List Entry) → Steps means room before added after → (t : Trace) → Run means t before → Run means (added ++ t) after
 carry means room before after [] same t run = subst (Run means t) (sym same) run
 carry means room before after (e ∷ es) s t run = next (carry means room before s.0 es s.1 t run) s.2
+
+pub carries : (means : Rulebook) → WithinLimits means → {room : Room} {before after : State} {call : Call} {answer : Result Reply Denial} {sheet : List Bill} →
+    Served means room before call answer sheet after → Carries means room before call answer sheet after
+carries means limits {room} {before} {after} did =
+    let more = carry means room before after did.added did.steps in
+    record { served = did; carried = record { run = more; lawful = λ t run. every_run_lawful means limits (did.added ++ t) after (more t run) } }
 
 -- before there is a book, nothing depends on the rulebook
 pub any_rulebook : {means : Rulebook} {t : Trace} (others : Rulebook) → Run means t no_book → Run others t no_book

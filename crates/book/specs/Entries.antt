@@ -1,14 +1,15 @@
 -- What an entry of a trace says as a call and an answer of the program. Assumes nothing.
-use Rattle.std.specs.Prelude.{ℕ, Bool, true, false, List, [], length, Ok, Err, Result}
+use Rattle.std.specs.Prelude.{Bool, true, false, List, [], length, Ok, Err, Result}
 use Rattle.rules.specs.declared.refusal.Refusal.{Refusal}
+use Rattle.rules.specs.declared.refusal.Refusal.TheVariants.{WrongState}
 use Rattle.billing.specs.declared.bill.Bill.{Bill}
-use Rattle.settlement.specs.declared.posted.Posted.{Posted}
-use Rattle.settlement.specs.Settling.{Reckoning}
 use Rattle.settlement.specs.Book.{State, no_book, in_month, published}
 use Rattle.book.specs.declared.call.Call.{Call}
 use Rattle.book.specs.declared.call.Call.TheVariants as call
-use Rattle.book.specs.declared.answer.Answer as answers
-use Rattle.book.specs.declared.answer.Answer.TheVariants.{Done, Placed, Posted as PostedAt, Sums, Settled, Refused}
+use Rattle.book.specs.declared.answer.Reply.{Reply}
+use Rattle.book.specs.declared.answer.Denial.{Denial}
+use Rattle.book.specs.declared.answer.Denial.TheVariants.{Misplaced, Refused}
+use Rattle.book.specs.declared.answer.Reply.TheVariants as reply
 use Rattle.book.specs.Runs.{Entry, New, Enrol, Read, Post, PayIn, Publish, Object, Answer, WhatIf, AccountSums, Settle}
 
 -- The call of an entry.
@@ -26,39 +27,28 @@ call_of (AccountSums party _) = call.AccountSums party
 call_of (Settle _) = call.Settle
 
 -- The answer that a result is given as.
-abbrev pub done_of : Result (Unit {0}) Refusal → answers.Answer
-done_of (Ok _) = Done
-done_of (Err e) = Refused e
+abbrev pub given_as : {A : Type 0} → (A → Reply) → Result A Refusal → Result Reply Denial
+given_as reply (Ok a) = Ok (reply a)
+given_as reply (Err e) = Err (Refused e)
 
-abbrev pub placed_of : Result ℕ Refusal → answers.Answer
-placed_of (Ok place) = Placed place
-placed_of (Err e) = Refused e
-
-abbrev pub posted_of : Result Posted Refusal → answers.Answer
-posted_of (Ok p) = PostedAt p
-posted_of (Err e) = Refused e
-
-abbrev pub sums_of : Result (List ℕ) Refusal → answers.Answer
-sums_of (Ok s) = Sums s
-sums_of (Err e) = Refused e
-
-abbrev pub settled_of : Result Reckoning Refusal → answers.Answer
-settled_of (Ok s) = Settled (record { rows = length s.rows; left = s.left })
-settled_of (Err e) = Refused e
+-- The refusal that a denial is printed as.
+abbrev pub refusal_of : Denial → Refusal
+refusal_of Misplaced = WrongState
+refusal_of (Refused e) = e
 
 -- The answer of an entry.
-abbrev pub answer_of : Entry → answers.Answer
-answer_of (New _ _ r) = done_of r
-answer_of (Enrol _ _ _ r) = done_of r
-answer_of (Read _ r) = done_of r
-answer_of (Post _ r) = posted_of r
-answer_of (PayIn _ r) = placed_of r
-answer_of Publish = Done
-answer_of (Object _ r) = done_of r
-answer_of (Answer _ _ r) = done_of r
-answer_of (WhatIf _ r) = sums_of r
-answer_of (AccountSums _ r) = sums_of r
-answer_of (Settle r) = settled_of r
+abbrev pub answer_of : Entry → Result Reply Denial
+answer_of (New _ _ r) = given_as (λ _. reply.Done) r
+answer_of (Enrol _ _ _ r) = given_as (λ _. reply.Done) r
+answer_of (Read _ r) = given_as (λ _. reply.Done) r
+answer_of (Post _ r) = given_as reply.Posted r
+answer_of (PayIn _ r) = given_as reply.Placed r
+answer_of Publish = Ok reply.Done
+answer_of (Object _ r) = given_as (λ _. reply.Done) r
+answer_of (Answer _ _ r) = given_as (λ _. reply.Done) r
+answer_of (WhatIf _ r) = given_as reply.Sums r
+answer_of (AccountSums _ r) = given_as reply.Sums r
+answer_of (Settle r) = given_as (λ s. reply.Settled (record { rows = length s.rows; left = s.left })) r
 
 -- The bills of an entry, which stand in the sheet after an accepted settling.
 abbrev pub rows_of : Entry → List Bill

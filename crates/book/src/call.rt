@@ -2,7 +2,7 @@
 use billing::reading::Reading;
 use records::event::Event;
 
-#[derive(Clone, Copy)]
+#[derive(Clone, Copy, Debug, PartialEq, Eq)]
 pub enum Call {
     New {
         year: u32,
@@ -10,6 +10,7 @@ pub enum Call {
     },
     Enrol {
         number: u32,
+        // kept: any number may be asked with, and is checked in its turn; `Kind` would ask more of callers
         kind: u32,
         capacity: u32,
     },
@@ -20,6 +21,7 @@ pub enum Call {
     Object(u32),
     Answer {
         place: u32,
+        // kept: a yes or no, with no value that only one of the two has
         upheld: bool,
     },
     WhatIf(u32),

@@ -11,6 +11,7 @@ use billing::bill::Bill;
 use rules::rule::Rule;
 use settlement::memory::Memory;
 
+// kept: memory, sheet, rulebook, calls and log are each lent by the caller
 // Serves the calls one after another, as many as the log has room for, and puts each answer into the log.
 pub fn play<P: Rule>(
     memory: &mut Memory,
@@ -23,10 +24,10 @@ pub fn play<P: Rule>(
     ensures rest { drop (min (length calls.now) (length log.old)) log.new ≡ drop (min (length calls.now) (length log.old)) log.old }
 {
     let mut stage = Stage::NoBook;
-    for i in 0..calls.len().min(log.len()) {
-        let (next, answer) = serve(stage, memory, sheet, rulebook, calls[i]);
-        log[i] = answer;
-        stage = next;
+    let mut waiting = calls.iter();
+    for entry in log.iter_mut() {
+        let Some(call) = waiting.next() else { break };
+        (stage, *entry) = serve(stage, memory, sheet, rulebook, *call);
     }
     stage
 }

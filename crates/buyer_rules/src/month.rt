@@ -1,6 +1,6 @@
 // A month entered and settled under the buyer's own rulebook. The law over runs comes with the part: the buyer has shown only
 // that his rule keeps a rule's law.
-ghost use Rattle.std.specs.Prelude.{min, length, take, Ok, Err};
+ghost use Rattle.std.specs.Prelude.{min, length, take};
 ghost use Rattle.book.specs.Playing.{Played};
 ghost use Rattle.book.specs.Serving.{state_of};
 ghost use Rattle.buyer_rules.specs.Month.{june_calls};
@@ -14,17 +14,12 @@ use book::call::Call;
 use book::playing::play;
 use book::stage::Stage;
 use records::event::Event;
-use rules::refusal::Refusal;
 use settlement::memory::Memory;
 
 // Plays the month into the log, as far as the log has room: the log is a run under the buyer's rulebook, and a lawful one.
-pub fn june(memory: &mut Memory, sheet: &mut [Bill], log: &mut [Answer]) -> Result<Stage, Refusal>
-    ensures { elim result [ Ok stage ↦ Played with_voltage (take (min 6 (length log.old)) june_calls) (take (min 6 (length log.old)) log.new) (state_of stage memory.new) | Err e ↦ ⊥ ] }
+pub fn june(memory: &mut Memory, sheet: &mut [Bill], log: &mut [Answer]) -> Stage
+    ensures { Played with_voltage (take (min 6 (length log.old)) june_calls) (take (min 6 (length log.old)) log.new) (state_of result memory.new) }
 {
-    let rulebook = match with_voltage() {
-        Ok(rulebook) => rulebook,
-        Err(refusal) => return Err(refusal),
-    };
     let calls = [
         Call::New {
             year: 2025,
@@ -50,5 +45,5 @@ pub fn june(memory: &mut Memory, sheet: &mut [Bill], log: &mut [Answer]) -> Resu
         Call::Publish,
         Call::Settle,
     ];
-    Ok(play(memory, sheet, &rulebook, &calls, log))
+    play(memory, sheet, &with_voltage(), &calls, log)
 }

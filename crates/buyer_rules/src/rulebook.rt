@@ -1,5 +1,5 @@
 // The buyer's rulebook: rulebook 1, then his own service under a cap.
-ghost use Rattle.std.specs.Prelude.{◌≡◌, Ok, Err};
+ghost use Rattle.std.specs.Prelude.{◌≡◌};
 ghost use Rattle.buyer_rules.specs.Voltage.{with_voltage};
 
 use crate::voltage_control::VoltageControl;
@@ -15,21 +15,19 @@ const MOST_PAID: u32 = 2_000_000;
 
 pub type WithVoltage = Chapters<Rulebook1, Cap<VoltageControl>>;
 
-// It is never refused, since the cap is a fair one.
-pub fn with_voltage() -> Result<WithVoltage, Refusal>
-    ensures { elim result [ Ok rulebook ↦ rulebook.second.limit ≡ 2_000_000 | Err e ↦ ⊥ ] }
+// It cannot be refused, since the cap is a fair one.
+pub fn with_voltage() -> WithVoltage
+    ensures { result.second.limit ≡ 2_000_000 }
 {
-    let capped = Cap::new(VoltageControl, MOST_PAID)?;
-    Ok(Chapters {
+    Chapters {
         first: rulebook_1(),
-        second: capped,
-    })
+        second: Cap::new(VoltageControl, MOST_PAID).unwrap(),
+    }
 }
 
 // What the buyer's rulebook answers.
 pub fn ask_with_voltage(facts: &Facts) -> Result<(Account, u32), Refusal>
     ensures { result ≡ with_voltage facts.now }
 {
-    let rulebook = with_voltage()?;
-    rulebook.ask(facts)
+    with_voltage().ask(facts)
 }

@@ -7,6 +7,7 @@ use rules::facts::Facts;
 use rules::kind::Kind;
 use rules::refusal::Refusal;
 use rules::rule::Rule;
+use rules::sums::Sums;
 
 // A unit of 600,000 kW in June 2025.
 fn in_june(kind: Kind, service: u32, x: i32, y: i32) -> Facts {
@@ -21,54 +22,37 @@ fn in_june(kind: Kind, service: u32, x: i32, y: i32) -> Facts {
     }
 }
 
-fn is_paid(answer: Result<(Account, u32), Refusal>, amount: u32) -> bool {
-    match answer {
-        Ok((Account::First, paid)) => paid == amount,
-        _ => false,
-    }
-}
-
-fn is_refused(answer: Result<(Account, u32), Refusal>, number: u32) -> bool {
-    match answer {
-        Ok(_) => false,
-        Err(refusal) => refusal.number() == number,
-    }
-}
-
 #[test]
 fn voltage_control_alone(rt: HostRuntime) {
     let paid = VoltageControl.ask(&in_june(Kind::Coal, 10, 100, 0));
-    assert!(rt; is_paid(paid, 6_000_000));
+    assert_eq!(rt; paid, Ok((Account::First, 6_000_000)));
     let wind = VoltageControl.ask(&in_june(Kind::Wind, 10, 100, 0));
-    assert!(rt; is_refused(wind, 5));
+    assert_eq!(rt; wind, Err(Refusal::NotCovered));
     let too_long = VoltageControl.ask(&in_june(Kind::Coal, 10, 745, 0));
-    assert!(rt; is_refused(too_long, 4));
+    assert_eq!(rt; too_long, Err(Refusal::OutOfRange));
 }
 
 #[test]
 fn voltage_control_in_a_rulebook(rt: HostRuntime) {
     let capped = ask_with_voltage(&in_june(Kind::Coal, 10, 100, 0));
-    assert!(rt; is_paid(capped, 2_000_000));
+    assert_eq!(rt; capped, Ok((Account::First, 2_000_000)));
     let ours = ask_with_voltage(&in_june(Kind::Coal, 2, 270_000, 0));
-    assert!(rt; is_paid(ours, 62_500));
+    assert_eq!(rt; ours, Ok((Account::First, 62_500)));
     let nobodys = ask_with_voltage(&in_june(Kind::Coal, 11, 0, 0));
-    assert!(rt; is_refused(nobodys, 5));
+    assert_eq!(rt; nobodys, Err(Refusal::NotCovered));
 }
 
 #[test]
 fn voltage_control_billed(rt: HostRuntime) {
     let sums = billed(&VoltageControl, &in_june(Kind::Hydro, 10, 10, 0));
-    assert!(rt; sums.first == 600_000 && sums.charges == 0);
+    assert_eq!(rt; sums, Sums::default().with(Account::First, 600_000));
     let refused = billed(&VoltageControl, &in_june(Kind::Market, 10, 10, 0));
-    assert!(rt; refused.first == 0);
+    assert_eq!(rt; refused, Sums::default());
 }
 
 // The number of the refusal, or 0.
 fn refusal_of(facts: Facts) -> u32 {
-    match ask_with_voltage(&facts) {
-        Ok(_) => 0,
-        Err(refusal) => refusal.number(),
-    }
+    ask_with_voltage(&facts).err().map_or(0, u32::from)
 }
 
 #[test]

@@ -11,7 +11,7 @@ use rules::kind::Kind;
 use rules::refusal::Refusal;
 use rules::rule::Rule;
 
-#[derive(Clone, Copy)]
+#[derive(Clone, Copy, Debug, PartialEq, Eq)]
 pub struct VoltageControl;
 
 impl Rule for VoltageControl {
@@ -20,10 +20,8 @@ impl Rule for VoltageControl {
     ghost bounded = { λ rule facts. answer_bounded voltage_control facts };
 
     fn ask(&self, facts: &Facts) -> Result<(Account, u32), Refusal> {
-        if !facts.named_by(10, &[Kind::Coal, Kind::Gas, Kind::Hydro]) {
-            return Err(Refusal::NotCovered);
-        }
-        if !facts.in_range() || facts.x < 0 || facts.x > 744 || facts.y != 0 {
+        facts.check(10, &[Kind::Coal, Kind::Gas, Kind::Hydro])?;
+        if !(0..=744).contains(&facts.x) || facts.y != 0 {
             return Err(Refusal::OutOfRange);
         }
         let hours = facts.x as u64;

@@ -1,49 +1,41 @@
--- The first line of a text, byte by byte. Assumes nothing.
-use Rattle.std.proofs.Common.{◌≡◌, ℕ, ◌+◌, ◌<◌, ◌≤◌, cond, eqb, List, [], ◌∷◌, ◌++◌, length, get_or, take, drop, sym, refl, ap, ◌∙◌, arith}
-use Rattle.std.proofs.lemmas.List.{take_all, take_more, drop_all, at_drop_more}
-use Rattle.std.proofs.lemmas.Bool.{eq-eqb, ne_eqb, cond-true, cond-false}
+-- The first line of a text. Assumes nothing.
+use Rattle.std.proofs.Common.{◌≡◌, ℕ, zero, suc, ◌+◌, ◌<◌, ◌≤◌, cond, Bool, true, false, not, eqb, ltb, List, [], ◌∷◌, length, get_or, take, drop, Some, None, refl, ap, ◌∙◌, arith}
+use Rattle.std.proofs.lemmas.Bool.{ltb-false}
+use Rattle.std.specs.List.{position, position_or_len}
 use Rattle.conformance.specs.Lines.{onto, lines}
 
--- bytes in front of the first line
-abbrev pub glue : List ℕ → List (List ℕ) → List (List ℕ)
-glue [] ls = ls
-glue (b ∷ bs) ls = onto b (glue bs ls)
+abbrev pub ends : ℕ → Bool
+ends b = eqb b 10
 
-glue_line : (xs : List ℕ) (ls : List (List ℕ)) → glue xs ([] ∷ ls) ≡ xs ∷ ls
-glue_line [] ls = refl
-glue_line (x ∷ xs) ls = ap (onto x) (glue_line xs ls)
+-- it goes up to the first newline
+pub first_cut : (text : List ℕ) (i : ℕ) → i < length text → ends (get_or text i 0) ≡ true → ((k : ℕ) → k < i → ends (get_or text k 0) ≡ false)
+    → lines text ≡ take i text ∷ lines (drop (i + 1) text)
+first_cut [] i h e n = absurd (omega arith)
+first_cut (b ∷ bs) zero h e n = simp e
+first_cut (b ∷ bs) (suc i) h e n =
+    let here : ends b ≡ false = n 0 (omega arith) in
+    let more : lines bs ≡ take i bs ∷ lines (drop (i + 1) bs) = first_cut bs i (omega arith) e (λ k s. n (suc k) (omega arith)) in
+    let next : suc (i + 1) ≡ suc i + 1 = omega arith in
+    simp here (ap (onto b) more ∙ ap (λ n. (b ∷ take i bs) ∷ lines (drop n (b ∷ bs))) next)
 
-glue_last : (xs : List ℕ) → 0 < length xs → glue xs [] ≡ xs ∷ []
-glue_last [] h = absurd (omega arith)
-glue_last (x ∷ []) h = refl
-glue_last (x ∷ (y ∷ ys)) h = ap (onto x) (glue_last (y ∷ ys) (omega arith))
+onto_one : (b : ℕ) (cs : List ℕ) → length (b ∷ cs) ≤ 1 + position_or_len ends cs → (0 < length cs → length cs ≤ position_or_len ends cs → lines cs ≡ cs ∷ [])
+    → onto b (lines cs) ≡ (b ∷ cs) ∷ []
+onto_one b [] l more = refl
+onto_one b (c ∷ cs) l more = ap (onto b) (more (omega arith) (omega arith))
 
-glue_more : (xs : List ℕ) (b : ℕ) (ls : List (List ℕ)) → glue (xs ++ b ∷ []) ls ≡ glue xs (onto b ls)
-glue_more [] b ls = refl
-glue_more (x ∷ xs) b ls = ap (onto x) (glue_more xs b ls)
+-- and with no newline the text is one line
+pub one_line : (text : List ℕ) → 0 < length text → length text ≤ position_or_len ends text → lines text ≡ text ∷ []
+one_line [] h l = absurd (omega arith)
+one_line (b ∷ bs) h l = go (ends b) refl l (one_line bs)
+  where
+    go : (t : Bool) → ends b ≡ t → length (b ∷ bs) ≤ cond (not t) (1 + position_or_len ends bs) 0 → (0 < length bs → length bs ≤ position_or_len ends bs → lines bs ≡ bs ∷ [])
+        → lines (b ∷ bs) ≡ (b ∷ bs) ∷ []
+    go true e l more = absurd (omega arith)
+    go false e l more = simp e (onto_one b bs l more)
 
--- the first i bytes are of the first line
-abbrev pub Within : List ℕ → ℕ → Type 0
-Within text i = lines text ≡ glue (take i text) (lines (drop i text))
-
-module _ (text : List ℕ) (i : ℕ) (within : i < length text) (so_far : Within text i) where
-  abbrev byte : ℕ
-  byte = get_or text i 0
-
-  abbrev more : List (List ℕ)
-  more = lines (drop (i + 1) text)
-
-  at : lines (drop i text) ≡ cond (eqb byte 10) ([] ∷ more) (onto byte more)
-  at = at_drop_more lines text i 0 within
-
-  pub no_newline : (get_or text i 0 ≡ 10 → ⊥) → Within text (i + 1)
-  no_newline other =
-      so_far ∙ ap (glue (take i text)) (at ∙ cond-false _ _ _ (ne_eqb byte 10 other)) ∙ sym (glue_more (take i text) byte more)
-      ∙ ap (λ xs. glue xs more) (sym (take_more text i 0 within))
-
-  pub newline : get_or text i 0 ≡ 10 → lines text ≡ take i text ∷ lines (drop (i + 1) text)
-  newline e = so_far ∙ ap (glue (take i text)) (at ∙ cond-true _ _ _ (eq-eqb byte 10 e)) ∙ glue_line (take i text) more
-
-pub last_line : (text : List ℕ) (i : ℕ) → length text ≤ i → 0 < length text → Within text i → lines text ≡ text ∷ []
-last_line text i all some so_far =
-    so_far ∙ ap (λ xs. glue xs (lines (drop i text))) (take_all i text all) ∙ ap (λ xs. glue text (lines xs)) (drop_all i text all) ∙ glue_last text some
+pub none_ends : (text : List ℕ) → None ≡ position ends text → length text ≤ position_or_len ends text
+none_ends text e = go (ltb (position_or_len ends text) (length text)) refl e
+  where
+    go : (t : Bool) → ltb (position_or_len ends text) (length text) ≡ t → None ≡ cond t (Some (position_or_len ends text)) None → length text ≤ position_or_len ends text
+    go true t e = let z : ◌≡◌ {A = ℕ} 0 1 = cc in absurd (omega arith)
+    go false t e = ltb-false _ _ t

@@ -1,26 +1,16 @@
 // Replays the lines of a scenario at a desk, and compares the answers with those expected.
-ghost use Rattle.conformance.specs.Replays.{After, Judged, JudgedAnew};
+ghost use Rattle.std.specs.Prelude.{◌≡◌};
+ghost use Rattle.conformance.specs.Replays.{After, spent, Judged, JudgedAnew};
 
-use crate::lines::first_line;
-use billing::bill::Bill;
-use billing::party::Party;
-use console::desk::{Desk, answer_line};
-use settlement::memory::Memory;
-use settlement::objection::Objection;
-
-const WORDS: usize = 16_384;
-
-const PARTIES: usize = 64;
-
-const OBJECTIONS: usize = 16;
-
-const PAGE: usize = 8192;
+use crate::lines::Lines;
+use console::office::{Office, Store};
 
 #[derive(Drop)]
 pub(crate) struct Replayed {
     // how many lines were answered
     pub lines: usize,
     // the answers were those expected
+    // kept: a yes or no of its own: the lines are counted in either case
     pub agrees: bool,
 }
 
@@ -31,54 +21,33 @@ fn after<'a>(expected: Option<&'a [u8]>, given: &[u8]) -> Option<&'a [u8]>
     expected?.strip_prefix(given)
 }
 
-// Gives none where an answer has no room on the page.
-fn judge(
-    desk: Desk,
-    memory: &mut Memory,
-    sheet: &mut [Bill],
-    page: &mut [u8],
-    commands: &[u8],
-    expected: &[u8],
-) -> Option<Replayed>
-    ensures { Judged desk memory.old sheet.old page.old commands.now expected.now result }
+fn is_spent(left: Option<&[u8]>) -> bool
+    ensures { result ≡ spent left.entry }
 {
-    let mut desk = desk;
+    left.is_some_and(|unseen| unseen.is_empty())
+}
+
+// Gives none where an answer has no room on the page.
+fn judge(office: &mut Office, commands: &[u8], expected: &[u8]) -> Option<Replayed>
+    ensures { Judged office.old commands.now expected.now result }
+{
     let mut left = Some(expected);
-    let mut rest = commands;
     let mut lines = 0;
-    while let Some((line, more)) = first_line(rest) {
-        let (next, long) = answer_line(desk, memory, sheet, line, page);
-        left = after(left, &page[..long?]);
-        desk = next;
-        rest = more;
+    for line in Lines(commands) {
+        let long = office.answer(line)?;
+        left = after(left, office.text(long));
         lines += 1;
     }
-    let agrees = match left {
-        Some(unseen) => unseen.is_empty(),
-        None => false,
-    };
-    Some(Replayed { lines, agrees })
+    Some(Replayed {
+        lines,
+        agrees: is_spent(left),
+    })
 }
 
 // Replays at a new desk.
 pub(crate) fn replay(commands: &[u8], expected: &[u8]) -> Option<Replayed>
     ensures { JudgedAnew commands.now expected.now result }
 {
-    let mut words = [0; WORDS];
-    let mut lines = [Party::blank(); PARTIES];
-    let mut objections = [Objection {
-        place: 0,
-        waiting: false,
-    }; OBJECTIONS];
-    let mut memory = Memory::over(&mut words, &mut lines, &mut objections);
-    let mut sheet = [Bill::blank(); PARTIES];
-    let mut page = [0; PAGE];
-    judge(
-        Desk::new(),
-        &mut memory,
-        &mut sheet,
-        &mut page,
-        commands,
-        expected,
-    )
+    let mut store = Store::new();
+    judge(&mut store.open(), commands, expected)
 }

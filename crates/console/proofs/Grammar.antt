@@ -1,5 +1,5 @@
 -- What `parsed` reads is the grammar's. Assumes nothing.
-use Rattle.std.proofs.Common.{◌≡◌, ℕ, ◌+◌, ◌-◌, ◌*◌, ◌≤◌, Bool, true, false, cond, eqb, List, [], ◌∷◌, ◌++◌, length, Some, None, Option, refl, ap, subst, arith, rules}
+use Rattle.std.proofs.Common.{◌≡◌, ℕ, zero, suc, ◌+◌, ◌-◌, ◌*◌, ◌<◌, ◌≤◌, Bool, true, false, cond, eqb, List, [], ◌∷◌, ◌++◌, length, Some, None, Option, refl, ap, subst, arith, rules}
 use borrow.Author.Tests.{eqb-false}
 use Rattle.std.proofs.lemmas.Bool.Decides.{nat_tests}
 use Rattle.std.specs.Char.{is_ascii_digit}
@@ -10,7 +10,7 @@ use Rattle.console.specs.Grammar.{read_on}
 pub first_digit : (d : ℕ) (ds : List ℕ) → all_ascii_digits (d ∷ ds) ≡ true → is_ascii_digit d ≡ true
 first_digit d ds a = search rules
 
-rest_digits : (d : ℕ) (ds : List ℕ) → all_ascii_digits (d ∷ ds) ≡ true → all_ascii_digits ds ≡ true
+pub rest_digits : (d : ℕ) (ds : List ℕ) → all_ascii_digits (d ∷ ds) ≡ true → all_ascii_digits ds ≡ true
 rest_digits d ds a = search rules
 
 -- digits, and no digit after them, are read whole
@@ -22,6 +22,20 @@ numeral_reads room n (d ∷ ds) rest b a l h x =
     let p = first_digit d ds a in
     let z : eqb room 0 ≡ false = search rules in
     simp (p, z) (numeral_reads (room - 1) (n * 10 + (d - 48)) ds rest (omega arith) (rest_digits d ds a) (omega arith) (λ _ e. omega arith) x)
+
+-- more digits than there is room for are not
+pub numeral_long : (room n : ℕ) (ds rest : List ℕ) → all_ascii_digits ds ≡ true → room < length ds → numeral room n (ds ++ rest) ≡ None
+numeral_long room n [] rest a h = absurd (omega arith)
+numeral_long zero n (d ∷ ds) rest a h = simp (first_digit d ds a)
+numeral_long (suc room) n (d ∷ ds) rest a h =
+    let z : eqb (suc room) 0 ≡ false = search rules in
+    let m : suc room - 1 ≡ room = omega arith in
+    simp (first_digit d ds a, z, m) (numeral_long room (n * 10 + (d - 48)) ds rest (rest_digits d ds a) (omega arith))
+
+-- and neither is a text with no digit first
+pub numeral_none : (n : ℕ) (rest : List ℕ) → LacksDigit rest → numeral 9 n rest ≡ None
+numeral_none n [] x = refl
+numeral_none n (c ∷ cs) x = simp x
 
 -- and what is read is digits, with no digit after them
 pub record Front (room n : ℕ) (xs : List ℕ) (v : ℕ) (rest : List ℕ) : Type 0 where

@@ -2,9 +2,12 @@
 use Rattle.std.proofs.Common.{◌≡◌, ℕ, true, false, cond, eqb, leb, List, [], ◌∷◌, length, Some, None, Option, sym, refl, ap, ◌∙◌, subst, ⊎_elim, eqb-true, le-leb, leb-true}
 use Rattle.console.specs.declared.command.Command.{Command}
 use Rattle.console.specs.declared.command.Command.TheVariants.{New, Enrol, Read, Post, PayIn, Publish, Object, Answer, WhatIf, AccountSums, Settle}
-use Rattle.console.specs.declared.command.Choice.TheVariants.{First, Second}
+use Rattle.console.specs.declared.choice.Choice.{Choice}
+use Rattle.console.specs.declared.choice.Choice.TheVariants.{First, Second}
+use Rattle.console.specs.Choices.{choice_of}
+use Rattle.std.specs.Option.{option_map}
 use Rattle.console.specs.Format.{unsigned, signed, new, enrol, meter, event, answer, single, body, whole, lettered, parsed}
-use Rattle.console.specs.Grammar.{plain, net, Fields, letter, fields, Text}
+use Rattle.console.specs.Grammar.{plain, net, Fields, choice_number, letter, fields, Text}
 use Rattle.console.proofs.GrammarFields.{then_is, way, none_is, read_plain, read_net, plain_read, net_read}
 
 -- a text of the command is read
@@ -24,17 +27,17 @@ complete (Enrol n k p) xs t =
     let f1 = read_plain k (plain p ∷ []) f0.0 f0.2 in
     let f2 = read_plain p [] f1.0 f1.2 in
     simp (f0.1, f1.1, f2.1, f2.2)
-complete (Read p s w) xs t =
-    let f0 = read_plain p (plain s ∷ net w ∷ []) xs t in
-    let f1 = read_plain s (net w ∷ []) f0.0 f0.2 in
-    let f2 = read_net w [] f1.0 f1.2 in
+complete (Read r) xs t =
+    let f0 = read_plain r.party (plain r.slot ∷ net r.power ∷ []) xs t in
+    let f1 = read_plain r.slot (net r.power ∷ []) f0.0 f0.2 in
+    let f2 = read_net r.power [] f1.0 f1.2 in
     simp (f0.1, f1.1, f2.1, f2.2)
-complete (Post p v s x y) xs t =
-    let f0 = read_plain p (plain v ∷ plain s ∷ net x ∷ net y ∷ []) xs t in
-    let f1 = read_plain v (plain s ∷ net x ∷ net y ∷ []) f0.0 f0.2 in
-    let f2 = read_plain s (net x ∷ net y ∷ []) f1.0 f1.2 in
-    let f3 = read_net x (net y ∷ []) f2.0 f2.2 in
-    let f4 = read_net y [] f3.0 f3.2 in
+complete (Post e) xs t =
+    let f0 = read_plain e.party (plain e.service ∷ plain e.slot ∷ net e.x ∷ net e.y ∷ []) xs t in
+    let f1 = read_plain e.service (plain e.slot ∷ net e.x ∷ net e.y ∷ []) f0.0 f0.2 in
+    let f2 = read_plain e.slot (net e.x ∷ net e.y ∷ []) f1.0 f1.2 in
+    let f3 = read_net e.x (net e.y ∷ []) f2.0 f2.2 in
+    let f4 = read_net e.y [] f3.0 f3.2 in
     simp (f0.1, f1.1, f2.1, f3.1, f4.1, f4.2)
 complete (PayIn n) xs t =
     let f0 = read_plain n [] xs t in
@@ -90,7 +93,7 @@ meter_is xs c e =
     let f0e = f0.1 in
     let f1e = f1.1 in
     let f2e = f2.1 in
-    made_is 82 xs f2.0.1 (Read f0.0.0 f1.0.0 f2.0.0) c f2.2 refl (λ z. (plain_read f0.0.0 (plain f1.0.0 ∷ net f2.0.0 ∷ []) xs f0.0.1 f0e (plain_read f1.0.0 (net f2.0.0 ∷ []) f0.0.1 f1.0.1 f1e (net_read f2.0.0 [] f1.0.1 f2.0.1 f2e z))))
+    made_is 82 xs f2.0.1 (Read (record { party = f0.0.0; slot = f1.0.0; power = f2.0.0 })) c f2.2 refl (λ z. (plain_read f0.0.0 (plain f1.0.0 ∷ net f2.0.0 ∷ []) xs f0.0.1 f0e (plain_read f1.0.0 (net f2.0.0 ∷ []) f0.0.1 f1.0.1 f1e (net_read f2.0.0 [] f1.0.1 f2.0.1 f2e z))))
 
 event_is : (xs : List ℕ) (c : Command) → event xs ≡ Some (c, []) → Good 86 xs c
 event_is xs c e =
@@ -104,53 +107,37 @@ event_is xs c e =
     let f2e = f2.1 in
     let f3e = f3.1 in
     let f4e = f4.1 in
-    made_is 86 xs f4.0.1 (Post f0.0.0 f1.0.0 f2.0.0 f3.0.0 f4.0.0) c f4.2 refl (λ z. (plain_read f0.0.0 (plain f1.0.0 ∷ plain f2.0.0 ∷ net f3.0.0 ∷ net f4.0.0 ∷ []) xs f0.0.1 f0e (plain_read f1.0.0 (plain f2.0.0 ∷ net f3.0.0 ∷ net f4.0.0 ∷ []) f0.0.1 f1.0.1 f1e (plain_read f2.0.0 (net f3.0.0 ∷ net f4.0.0 ∷ []) f1.0.1 f2.0.1 f2e (net_read f3.0.0 (net f4.0.0 ∷ []) f2.0.1 f3.0.1 f3e (net_read f4.0.0 [] f3.0.1 f4.0.1 f4e z))))))
+    made_is 86 xs f4.0.1 (Post (record { party = f0.0.0; service = f1.0.0; slot = f2.0.0; x = f3.0.0; y = f4.0.0 })) c f4.2 refl (λ z. (plain_read f0.0.0 (plain f1.0.0 ∷ plain f2.0.0 ∷ net f3.0.0 ∷ net f4.0.0 ∷ []) xs f0.0.1 f0e (plain_read f1.0.0 (plain f2.0.0 ∷ net f3.0.0 ∷ net f4.0.0 ∷ []) f0.0.1 f1.0.1 f1e (plain_read f2.0.0 (net f3.0.0 ∷ net f4.0.0 ∷ []) f1.0.1 f2.0.1 f2e (net_read f3.0.0 (net f4.0.0 ∷ []) f2.0.1 f3.0.1 f3e (net_read f4.0.0 [] f3.0.1 f4.0.1 f4e z))))))
 
-pay_is : (xs : List ℕ) (c : Command) → single PayIn xs ≡ Some (c, []) → Good 70 xs c
-pay_is xs c e =
+single_is : (l : ℕ) (make : ℕ → Command) → ((n : ℕ) → letter (make n) ≡ l) → ((n : ℕ) → fields (make n) ≡ plain n ∷ []) →
+    (xs : List ℕ) (c : Command) → single make xs ≡ Some (c, []) → Good l xs c
+single_is l make at has xs c e =
     let f0 = then_is (unsigned xs) _ (c, []) e in
-    let f0e = f0.1 in
-    made_is 70 xs f0.0.1 (PayIn f0.0.0) c f0.2 refl (λ z. (plain_read f0.0.0 [] xs f0.0.1 f0e z))
-
-object_is : (xs : List ℕ) (c : Command) → single Object xs ≡ Some (c, []) → Good 79 xs c
-object_is xs c e =
-    let f0 = then_is (unsigned xs) _ (c, []) e in
-    let f0e = f0.1 in
-    made_is 79 xs f0.0.1 (Object f0.0.0) c f0.2 refl (λ z. (plain_read f0.0.0 [] xs f0.0.1 f0e z))
-
-try_is : (xs : List ℕ) (c : Command) → single WhatIf xs ≡ Some (c, []) → Good 84 xs c
-try_is xs c e =
-    let f0 = then_is (unsigned xs) _ (c, []) e in
-    let f0e = f0.1 in
-    made_is 84 xs f0.0.1 (WhatIf f0.0.0) c f0.2 refl (λ z. (plain_read f0.0.0 [] xs f0.0.1 f0e z))
-
-look_is : (xs : List ℕ) (c : Command) → single AccountSums xs ≡ Some (c, []) → Good 81 xs c
-look_is xs c e =
-    let f0 = then_is (unsigned xs) _ (c, []) e in
-    let f0e = f0.1 in
-    made_is 81 xs f0.0.1 (AccountSums f0.0.0) c f0.2 refl (λ z. (plain_read f0.0.0 [] xs f0.0.1 f0e z))
+    made_is l xs f0.0.1 (make f0.0.0) c f0.2 (at f0.0.0) (λ z. subst (λ fs. Fields fs xs) (sym (has f0.0.0)) (plain_read f0.0.0 [] xs f0.0.1 f0.1 z))
 
 f_at : (xs : List ℕ) (p : ℕ × List ℕ) (n : ℕ) → unsigned xs ≡ Some p → p.0 ≡ n → unsigned xs ≡ Some (n, p.1)
 f_at xs p n e q = e ∙ ap (λ m. Some (m, p.1)) q
+
+number_of_choice : (n : ℕ) (c : Choice) → choice_of n ≡ Some c → n ≡ choice_number c
+number_of_choice n c e =
+    ⊎_elim (λ w. eqb-true n 1 w.0 ∙ ap choice_number (pair_is First c w.1))
+    (λ v. ⊎_elim (λ w. eqb-true n 2 w.0 ∙ ap choice_number (pair_is Second c w.1)) (λ w. absurd (none_is c w.1)) (way (eqb n 2) (Some Second) None c v.1))
+    (way (eqb n 1) (Some First) _ c e)
+
+mapped_is : {A B : Type 0} (f : A → B) (o : Option A) (r : B) → option_map f o ≡ Some r → (a : A) × (o ≡ Some a) × (f a ≡ r)
+mapped_is f None r e = absurd (none_is r e)
+mapped_is f (Some a) r e = (a, refl, pair_is (f a) r e)
 
 new_is : (xs : List ℕ) (c : Command) → new xs ≡ Some (c, []) → Good 78 xs c
 new_is xs c e =
     let f0 = then_is (unsigned xs) _ (c, []) e in
     let f1 = then_is (unsigned f0.0.1) _ (c, []) f0.2 in
     let f2 = then_is (unsigned f1.0.1) _ (c, []) f1.2 in
-    let f0e = f0.1 in
-    let f1e = f1.1 in
-    ⊎_elim
-    (λ w.
-    let f2e = f_at f1.0.1 f2.0 1 f2.1 (eqb-true f2.0.0 1 w.0) in
-    made_is 78 xs f2.0.1 (New f0.0.0 f1.0.0 First) c w.1 refl (λ z. (plain_read f0.0.0 (plain f1.0.0 ∷ plain 1 ∷ []) xs f0.0.1 f0e (plain_read f1.0.0 (plain 1 ∷ []) f0.0.1 f1.0.1 f1e (plain_read 1 [] f1.0.1 f2.0.1 f2e z)))))
-    (λ v. ⊎_elim
-    (λ w.
-    let f2e = f_at f1.0.1 f2.0 2 f2.1 (eqb-true f2.0.0 2 w.0) in
-    made_is 78 xs f2.0.1 (New f0.0.0 f1.0.0 Second) c w.1 refl (λ z. (plain_read f0.0.0 (plain f1.0.0 ∷ plain 2 ∷ []) xs f0.0.1 f0e (plain_read f1.0.0 (plain 2 ∷ []) f0.0.1 f1.0.1 f1e (plain_read 2 [] f1.0.1 f2.0.1 f2e z)))))
-    (λ w. absurd (none_is (c, []) w.1))
-    (way (eqb f2.0.0 2) (Some (New f0.0.0 f1.0.0 Second, f2.0.1)) None (c, []) v.1))
-    (way (eqb f2.0.0 1) (Some (New f0.0.0 f1.0.0 First, f2.0.1)) _ (c, []) f2.2)
+    let m = mapped_is _ (choice_of f2.0.0) (c, []) f2.2 in
+    let f2e = f_at f1.0.1 f2.0 (choice_number m.0) f2.1 (number_of_choice f2.0.0 m.0 m.1) in
+    made_is 78 xs f2.0.1 (New f0.0.0 f1.0.0 m.0) c (ap Some m.2) refl
+    (λ z. plain_read f0.0.0 (plain f1.0.0 ∷ plain (choice_number m.0) ∷ []) xs f0.0.1 f0.1
+    (plain_read f1.0.0 (plain (choice_number m.0) ∷ []) f0.0.1 f1.0.1 f1.1 (plain_read (choice_number m.0) [] f1.0.1 f2.0.1 f2e z)))
 
 answer_is : (xs : List ℕ) (c : Command) → answer xs ≡ Some (c, []) → Good 65 xs c
 answer_is xs c e =
@@ -181,12 +168,12 @@ sound l xs c e =
     (λ e. letter_way l 69 (enrol xs) _ xs c e (enrol_is xs c)
     (λ e. letter_way l 82 (meter xs) _ xs c e (meter_is xs c)
     (λ e. letter_way l 86 (event xs) _ xs c e (event_is xs c)
-    (λ e. letter_way l 70 (single PayIn xs) _ xs c e (pay_is xs c)
+    (λ e. letter_way l 70 (single PayIn xs) _ xs c e (single_is 70 PayIn (λ _. refl) (λ _. refl) xs c)
     (λ e. letter_way l 80 (Some (Publish, xs)) _ xs c e (λ q. made_is 80 xs xs Publish c q refl (λ z. z))
-    (λ e. letter_way l 79 (single Object xs) _ xs c e (object_is xs c)
+    (λ e. letter_way l 79 (single Object xs) _ xs c e (single_is 79 Object (λ _. refl) (λ _. refl) xs c)
     (λ e. letter_way l 65 (answer xs) _ xs c e (answer_is xs c)
-    (λ e. letter_way l 84 (single WhatIf xs) _ xs c e (try_is xs c)
-    (λ e. letter_way l 81 (single AccountSums xs) _ xs c e (look_is xs c)
+    (λ e. letter_way l 84 (single WhatIf xs) _ xs c e (single_is 84 WhatIf (λ _. refl) (λ _. refl) xs c)
+    (λ e. letter_way l 81 (single AccountSums xs) _ xs c e (single_is 81 AccountSums (λ _. refl) (λ _. refl) xs c)
     (λ e. letter_way l 83 (Some (Settle, xs)) _ xs c e (λ q. made_is 83 xs xs Settle c q refl (λ z. z))
     (λ e. absurd (none_is (c, []) e))))))))))))
 

@@ -10,21 +10,23 @@ use Rattle.billing.specs.declared.bill.Bill.{Bill}
 use Rattle.billing.proofs.Rows.{length_bills}
 use Rattle.settlement.specs.Book.{State, no_book, in_month, published, Room}
 use Rattle.settlement.specs.Settling.{Reckoning}
-use Rattle.book.specs.Entries.{answer_of, rows_of, allows, done_of}
+use Rattle.book.specs.Entries.{answer_of, rows_of, allows, given_as}
 use Rattle.book.specs.History.{Placed, without, standing, journal, month, worth_of}
 use Rattle.book.specs.Laws.{WithinLimits}
 use Rattle.book.specs.Limits.{StateFits}
 use Rattle.book.specs.Runs.{Entry, New, Enrol, Read, Post, PayIn, Publish, Object, Answer, WhatIf, AccountSums, Settle, Trace, Step, settle, Run, next}
 use Rattle.book.specs.Serving.{Steps, rows_in, Served}
-use Rattle.book.specs.declared.answer.Answer as answers
-use Rattle.book.specs.declared.answer.Answer.TheVariants.{Misplaced}
+use Rattle.book.specs.declared.answer.Reply.{Reply}
+use Rattle.book.specs.declared.answer.Denial.{Denial}
+use Rattle.book.specs.declared.answer.Denial.TheVariants.{Misplaced}
+use Rattle.book.specs.declared.answer.Reply.TheVariants.{Done}
 use Rattle.book.specs.declared.call.Call.{Call}
 use Rattle.book.proofs.Keeping.{weighed}
 use Rattle.book.proofs.Lawful.{every_run_lawful, every_run_within_limits}
 use Rattle.console.proofs.Bounded.{worth_small, without_fewer, events_few, words_few, bills_fit}
 use Rattle.console.proofs.Sizes.{RowFits, AnswerFits}
 
-done_fits : (r : Result (Unit {0}) Refusal) (sheet : List Bill) → AnswerFits (done_of r) sheet
+done_fits : (r : Result (Unit {0}) Refusal) (sheet : List Bill) → AnswerFits (given_as (λ _. Done) r) sheet
 done_fits (Ok _) sheet = tt
 done_fits (Err _) sheet = tt
 
@@ -84,8 +86,8 @@ module _ (means : Rulebook) (lim : WithinLimits means) (t : Trace) (s : State) (
       settled_fits room s s' r sheet f (settle {s = no_book} step) billed = absurd step
   entry_fits room s' (Settle (Err _)) sheet step billed = tt
 
-  module _ (room : Room) (call : Call) (answer : answers.Answer) (sheet : List Bill) (s' : State) where
-    by_added : (added : List Entry) → (b : Bool) → map answer_of added ≡ cond b (answer ∷ []) [] → (b ≡ false → answer ≡ Misplaced) →
+  module _ (room : Room) (call : Call) (answer : Result Reply Denial) (sheet : List Bill) (s' : State) where
+    by_added : (added : List Entry) → (b : Bool) → map answer_of added ≡ cond b (answer ∷ []) [] → (b ≡ false → answer ≡ Err Misplaced) →
         rows_in added ≡ take (length (rows_in added)) sheet → Steps means room s added s' → AnswerFits answer sheet
     by_added [] true told away billed steps = absurd (let long = ap length told in omega arith)
     by_added [] false told away billed steps = subst (λ a. AnswerFits a sheet) (sym (away refl)) tt

@@ -1,5 +1,5 @@
 -- How long the text of an answer can be. Assumes nothing.
-use Rattle.std.proofs.Common.{◌≡◌, ℕ, suc, ◌+◌, ◌*◌, ◌^◌, ◌<◌, ◌≤◌, true, List, [], ◌∷◌, ◌++◌, length, take, ℤ, pos, negsuc, nat_abs, is_some, Some, None, codes, decimal, Option, refl, arith}
+use Rattle.std.proofs.Common.{◌≡◌, ℕ, suc, ◌+◌, ◌*◌, ◌^◌, ◌<◌, ◌≤◌, true, List, [], ◌∷◌, ◌++◌, length, take, ℤ, pos, negsuc, nat_abs, is_some, Some, None, Ok, Err, codes, decimal, Option, Result, refl, arith}
 use Rattle.std.specs.List.{AllByRecursion}
 use Rattle.std.proofs.lemmas.List.{length-append}
 use Rattle.std.proofs.lemmas.Fmt.{length-decimal-le}
@@ -10,8 +10,10 @@ use Rattle.rules.specs.declared.account.Account.TheVariants.{Charges, First, Sec
 use Rattle.rules.specs.declared.refusal.Refusal.{Refusal}
 use Rattle.rules.specs.declared.refusal.Refusal.TheVariants.{UnknownParty, EnrolledAlready, RosterFull, OutOfRange, NotCovered, OverCeiling, AccountFull, JournalFull, SlotPassed, PostedAlready, FundFull, NoSuchEvent, StruckAlready, ObjectedAlready, ObjectionsFull, NoOpenObjection, Unanswered, CalendarEnd, SheetShort, NoWeight, OutOfStep, WrongState, Unreadable}
 use Rattle.billing.specs.declared.bill.Bill.{Bill}
-use Rattle.book.specs.declared.answer.Answer.{Answer}
-use Rattle.book.specs.declared.answer.Answer.TheVariants.{Done, Placed, Posted, Sums, Settled, Refused, Misplaced}
+use Rattle.book.specs.declared.answer.Reply.{Reply}
+use Rattle.book.specs.declared.answer.Denial.{Denial}
+use Rattle.book.specs.Entries.{refusal_of}
+use Rattle.book.specs.declared.answer.Reply.TheVariants.{Done, Placed, Posted, Sums, Settled}
 use Rattle.console.specs.Answers.{field, net, sums, line, lines, text, Printed}
 
 -- a row of a settling within the limits of the book
@@ -26,14 +28,13 @@ pub record RowFits (b : Bill) : Type 0 where
   pub net : nat_abs b.net ≤ 160_000_000_000
 
 -- an answer of a book within its limits
-abbrev pub AnswerFits : Answer → List Bill → Type 0
-AnswerFits Done sheet = Unit {0}
-AnswerFits (Placed at) sheet = at ≤ 1_048_576
-AnswerFits (Posted p) sheet = (p.place ≤ 1_048_576) × (p.amount ≤ 1_000_000_000)
-AnswerFits (Sums ns) sheet = (length ns ≡ 4) × AllByRecursion (λ n. n ≤ 1_048_576_000_000_000) ns
-AnswerFits (Settled t) sheet = (t.rows ≤ 64) × (t.left ≤ 40_000_000_000) × (length (take t.rows sheet) ≤ 64) × AllByRecursion RowFits (take t.rows sheet)
-AnswerFits (Refused e) sheet = Unit {0}
-AnswerFits Misplaced sheet = Unit {0}
+abbrev pub AnswerFits : Result Reply Denial → List Bill → Type 0
+AnswerFits (Ok Done) sheet = Unit {0}
+AnswerFits (Ok (Placed at)) sheet = at ≤ 1_048_576
+AnswerFits (Ok (Posted p)) sheet = (p.place ≤ 1_048_576) × (p.amount ≤ 1_000_000_000)
+AnswerFits (Ok (Sums ns)) sheet = (length ns ≡ 4) × AllByRecursion (λ n. n ≤ 1_048_576_000_000_000) ns
+AnswerFits (Ok (Settled t)) sheet = (t.rows ≤ 64) × (t.left ≤ 40_000_000_000) × (length (take t.rows sheet) ≤ 64) × AllByRecursion RowFits (take t.rows sheet)
+AnswerFits (Err e) sheet = Unit {0}
 
 joined_long : (xs ys : List ℕ) (m n : ℕ) → length xs ≤ m → length ys ≤ n → length (xs ++ ys) ≤ m + n
 joined_long xs ys m n h k = omega (arith, length-append xs ys)
@@ -129,27 +130,27 @@ ended : (n : ℕ) → n ≤ 1_000_000_000 → length (field n ++ (10 ∷ [])) �
 ended n h = joined_long (field n) (10 ∷ []) 11 1 (small_field n h) (omega arith)
 
 -- no answer of a book within its limits is longer than a page
-pub text_fits : (a : Answer) (sheet : List Bill) → AnswerFits a sheet → length (text a sheet) ≤ 8192
-text_fits Done sheet f = omega arith
-text_fits (Placed at) sheet f = said (codes "ok") (field at ++ (10 ∷ [])) 12 (omega arith) (ended at (omega arith)) (omega arith)
-text_fits (Posted p) sheet f =
+pub text_fits : (a : Result Reply Denial) (sheet : List Bill) → AnswerFits a sheet → length (text a sheet) ≤ 8192
+text_fits (Ok Done) sheet f = omega arith
+text_fits (Ok (Placed at)) sheet f = said (codes "ok") (field at ++ (10 ∷ [])) 12 (omega arith) (ended at (omega arith)) (omega arith)
+text_fits (Ok (Posted p)) sheet f =
     let account = field (place p.account) in
     let amount = field p.amount ++ (10 ∷ []) in
     said (codes "ok") (field p.place ++ (account ++ amount)) 34 (omega arith)
     (joined_long (field p.place) (account ++ amount) 11 23 (small_field p.place (omega (arith, f.0)))
     (joined_long account amount 11 12 (small_field (place p.account) (omega (arith, place_small p.account))) (ended p.amount f.1))) (omega arith)
-text_fits (Sums ns) sheet f =
+text_fits (Ok (Sums ns)) sheet f =
     said (codes "ok") (sums ns ++ (10 ∷ [])) 69 (omega arith) (joined_long (sums ns) (10 ∷ []) 68 1 (omega (arith, sums_long ns f.1, f.0)) (omega arith)) (omega arith)
-text_fits (Settled t) sheet f =
+text_fits (Ok (Settled t)) sheet f =
     let rows = lines (take t.rows sheet) in
     let left = field t.left in
     said (codes "ok") (field t.rows ++ (left ++ ((10 ∷ []) ++ rows))) 5912 (omega arith)
     (joined_long (field t.rows) (left ++ ((10 ∷ []) ++ rows)) 11 5901 (small_field t.rows (omega (arith, f.0)))
     (joined_long left ((10 ∷ []) ++ rows) 12 5889 (eleven t.left f.1)
     (joined_long (10 ∷ []) rows 1 5888 (omega arith) (omega (arith, lines_long (take t.rows sheet) f.3, f.2))))) (omega arith)
-text_fits (Refused e) sheet f =
+text_fits (Err d) sheet f =
+    let e = refusal_of d in
     said (codes "no") (field (number_of e) ++ (10 ∷ [])) 12 (omega arith) (ended (number_of e) (omega (arith, number_small e))) (omega arith)
-text_fits Misplaced sheet f = said (codes "no") (field 22 ++ (10 ∷ [])) 12 (omega arith) (ended 22 (omega arith)) (omega arith)
 
 pub has_room : (s page page' : List ℕ) (long : Option ℕ) → Printed s page long page' → length s ≤ 8192 → 8192 ≤ length page → is_some long ≡ true
 has_room s page page' None p h e = absurd (omega arith)

@@ -1,12 +1,15 @@
 -- The text of an answer. Assumes nothing.
-use Rattle.std.specs.Prelude.{◌≡◌, ℕ, ◌<◌, ◌≤◌, List, [], ◌∷◌, ◌++◌, length, take, drop, ℤ, Some, None, codes, decimal, Option}
+use Rattle.std.specs.Prelude.{◌≡◌, ℕ, ◌<◌, ◌≤◌, List, [], ◌∷◌, ◌++◌, length, take, drop, ℤ, Some, None, Ok, Err, codes, decimal, Option, Result}
 use Rattle.std.specs.List.{flat_map}
 use Rattle.std.specs.Fmt.{signed_decimal}
 use Rattle.rules.specs.Answers.{place}
 use Rattle.rules.specs.Refusals.{number_of}
 use Rattle.billing.specs.declared.bill.Bill.{Bill}
-use Rattle.book.specs.declared.answer.Answer.{Answer}
-use Rattle.book.specs.declared.answer.Answer.TheVariants.{Done, Placed, Posted, Sums, Settled, Refused, Misplaced}
+use Rattle.rules.specs.declared.refusal.Refusal.{Refusal}
+use Rattle.book.specs.declared.answer.Reply.{Reply}
+use Rattle.book.specs.declared.answer.Denial.{Denial}
+use Rattle.book.specs.Entries.{refusal_of}
+use Rattle.book.specs.declared.answer.Reply.TheVariants.{Done, Placed, Posted, Sums, Settled}
 
 -- a number after a space
 abbrev pub field : ℕ → List ℕ
@@ -31,14 +34,13 @@ abbrev pub lines : List Bill → List ℕ
 lines bs = flat_map line bs
 
 -- the text of an answer, with the sheet that the bills of a settling stand in
-abbrev pub text : Answer → List Bill → List ℕ
-text Done sheet = codes "ok\n"
-text (Placed at) sheet = codes "ok" ++ (field at ++ (10 ∷ []))
-text (Posted p) sheet = codes "ok" ++ (field p.place ++ (field (place p.account) ++ (field p.amount ++ (10 ∷ []))))
-text (Sums ns) sheet = codes "ok" ++ (sums ns ++ (10 ∷ []))
-text (Settled t) sheet = codes "ok" ++ (field t.rows ++ (field t.left ++ ((10 ∷ []) ++ lines (take t.rows sheet))))
-text (Refused e) sheet = codes "no" ++ (field (number_of e) ++ (10 ∷ []))
-text Misplaced sheet = codes "no" ++ (field 22 ++ (10 ∷ []))
+abbrev pub text : Result Reply Denial → List Bill → List ℕ
+text (Ok Done) sheet = codes "ok\n"
+text (Ok (Placed at)) sheet = codes "ok" ++ (field at ++ (10 ∷ []))
+text (Ok (Posted p)) sheet = codes "ok" ++ (field p.place ++ (field (place p.account) ++ (field p.amount ++ (10 ∷ []))))
+text (Ok (Sums ns)) sheet = codes "ok" ++ (sums ns ++ (10 ∷ []))
+text (Ok (Settled t)) sheet = codes "ok" ++ (field t.rows ++ (field t.left ++ ((10 ∷ []) ++ lines (take t.rows sheet))))
+text (Err denial) sheet = codes "no" ++ (field (number_of (refusal_of denial)) ++ (10 ∷ []))
 
 -- a text at the front of a page, if it fits, with the rest of the page as it was
 abbrev pub Printed : List ℕ → List ℕ → Option ℕ → List ℕ → Type 0

@@ -7,8 +7,8 @@ use Rattle.console.specs.declared.command.Command.TheVariants.{New, Enrol, Read,
 abbrev pub call_of : Command → Call
 call_of (New year month choice) = call.New year month
 call_of (Enrol number kind capacity) = call.Enrol number kind capacity
-call_of (Read party slot power) = call.Read (record { party = party; slot = slot; power = power })
-call_of (Post party service slot x y) = call.Post (record { party = party; service = service; slot = slot; x = x; y = y })
+call_of (Read reading) = call.Read reading
+call_of (Post event) = call.Post event
 call_of (PayIn amount) = call.PayIn amount
 call_of Publish = call.Publish
 call_of (Object place) = call.Object place

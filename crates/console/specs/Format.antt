@@ -1,9 +1,10 @@
 -- The text of a command. Assumes nothing.
-use Rattle.std.specs.Prelude.{◌≡◌, ℕ, ◌+◌, ◌-◌, ◌*◌, ◌<◌, Bool, true, false, cond, List, [], ◌∷◌, length, ℤ, pos, neg_ℤ, Some, None, Option, ◌==◌, nat_le}
+use Rattle.std.specs.Prelude.{◌≡◌, ℕ, ◌+◌, ◌-◌, ◌*◌, Bool, true, false, cond, List, [], ◌∷◌, length, ℤ, pos, neg_ℤ, Some, None, Option, ◌==◌, nat_le}
 use Rattle.std.specs.Char.{is_ascii_digit}
+use Rattle.std.specs.Option.{option_map}
 use Rattle.console.specs.declared.command.Command.{Command}
 use Rattle.console.specs.declared.command.Command.TheVariants as command
-use Rattle.console.specs.declared.command.Choice.TheVariants.{First, Second}
+use Rattle.console.specs.Choices.{choice_of}
 
 abbrev pub is_empty : List ℕ → Bool
 is_empty [] = true
@@ -15,19 +16,14 @@ Lacks b [] = Unit {0}
 Lacks b (c ∷ cs) = c ≡ b → ⊥
 
 -- the byte is first, and is taken; else nothing is
-abbrev pub Took : ℕ → List ℕ → Bool → List ℕ → Type 0
-Took b xs true ys = xs ≡ b ∷ ys
-Took b xs false ys = Lacks b xs × (ys ≡ xs)
+abbrev pub Took : ℕ → List ℕ → Option (Unit {0}) → List ℕ → Type 0
+Took b xs (Some _) ys = xs ≡ b ∷ ys
+Took b xs None ys = Lacks b xs × (ys ≡ xs)
 
 -- no digit is first
 abbrev pub LacksDigit : List ℕ → Type 0
 LacksDigit [] = Unit {0}
 LacksDigit (c ∷ cs) = is_ascii_digit c ≡ false
-
--- a digit is first, and is taken; else nothing is
-abbrev pub TookDigit : List ℕ → Option ℕ → List ℕ → Type 0
-TookDigit xs None ys = LacksDigit xs × (ys ≡ xs)
-TookDigit xs (Some d) ys = (xs ≡ (48 + d) ∷ ys) × (d < 10)
 
 -- what a way of reading finds at the front of a text: nothing, or a value and what is left
 abbrev pub Reads : {A : Type 0} → (List ℕ → Option (A × List ℕ)) → List ℕ → Option A → List ℕ → Type 0
@@ -66,9 +62,7 @@ signed [] = None
 signed (c ∷ cs) = cond (c == 32) (signedAt cs) None
 
 abbrev pub chosen : ℕ → ℕ → ℕ → List ℕ → Option (Command × List ℕ)
-chosen year month choice rest =
-    cond (choice == 1) (Some (command.New year month First, rest))
-    (cond (choice == 2) (Some (command.New year month Second, rest)) None)
+chosen year month n rest = option_map (λ choice. (command.New year month choice, rest)) (choice_of n)
 
 abbrev pub new : List ℕ → Option (Command × List ℕ)
 new xs = and_then (unsigned xs) (λ year ys. and_then (unsigned ys) (λ month zs. and_then (unsigned zs) (chosen year month)))
@@ -81,12 +75,12 @@ enrol xs =
 abbrev pub meter : List ℕ → Option (Command × List ℕ)
 meter xs =
     and_then (unsigned xs) (λ party ys. and_then (unsigned ys) (λ slot zs. and_then (signed zs) (λ power rest.
-    Some (command.Read party slot power, rest))))
+    Some (command.Read (record { party = party; slot = slot; power = power }), rest))))
 
 abbrev pub event : List ℕ → Option (Command × List ℕ)
 event xs =
     and_then (unsigned xs) (λ party ys. and_then (unsigned ys) (λ service zs. and_then (unsigned zs) (λ slot us.
-    and_then (signed us) (λ x vs. and_then (signed vs) (λ y rest. Some (command.Post party service slot x y, rest))))))
+    and_then (signed us) (λ x vs. and_then (signed vs) (λ y rest. Some (command.Post (record { party = party; service = service; slot = slot; x = x; y = y }), rest))))))
 
 abbrev pub flagged : ℕ → ℕ → List ℕ → Option (Command × List ℕ)
 flagged place value rest =

@@ -3,8 +3,8 @@ use Rattle.std.specs.Prelude.{◌≡◌, ℕ, ◌+◌, ◌-◌, ◌*◌, ◌<◌
 use Rattle.std.specs.Str.{all_ascii_digits}
 use Rattle.console.specs.declared.command.Command.{Command}
 use Rattle.console.specs.declared.command.Command.TheVariants.{New, Enrol, Read, Post, PayIn, Publish, Object, Answer, WhatIf, AccountSums, Settle}
-use Rattle.console.specs.declared.command.Choice.{Choice}
-use Rattle.console.specs.declared.command.Choice.TheVariants.{First, Second}
+use Rattle.console.specs.declared.choice.Choice.{Choice}
+use Rattle.console.specs.declared.choice.Choice.TheVariants.{First, Second}
 
 -- the number that digits write, after those of n
 abbrev pub read_on : ℕ → List ℕ → ℕ
@@ -39,8 +39,8 @@ choice_number Second = 2
 abbrev pub letter : Command → ℕ
 letter (New y m p) = 78
 letter (Enrol n k c) = 69
-letter (Read p s power) = 82
-letter (Post p v s x y) = 86
+letter (Read r) = 82
+letter (Post e) = 86
 letter (PayIn amount) = 70
 letter Publish = 80
 letter (Object place) = 79
@@ -52,8 +52,8 @@ letter Settle = 83
 abbrev pub fields : Command → List Field
 fields (New y m p) = plain y ∷ plain m ∷ plain (choice_number p) ∷ []
 fields (Enrol n k c) = plain n ∷ plain k ∷ plain c ∷ []
-fields (Read p s power) = plain p ∷ plain s ∷ net power ∷ []
-fields (Post p v s x y) = plain p ∷ plain v ∷ plain s ∷ net x ∷ net y ∷ []
+fields (Read r) = plain r.party ∷ plain r.slot ∷ net r.power ∷ []
+fields (Post e) = plain e.party ∷ plain e.service ∷ plain e.slot ∷ net e.x ∷ net e.y ∷ []
 fields (PayIn amount) = plain amount ∷ []
 fields Publish = []
 fields (Object place) = plain place ∷ []

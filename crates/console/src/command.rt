@@ -1,19 +1,11 @@
 // The commands that a line can give.
-ghost use Rattle.std.specs.Prelude.{◌≡◌};
-ghost use Rattle.console.specs.Calls.{call_of};
-
+use crate::choice::Choice;
 use billing::reading::Reading;
 use book::call::Call;
 use records::event::Event;
 
-// Which of the two rulebooks a new book goes by.
-#[derive(Clone, Copy)]
-pub enum Choice {
-    First,
-    Second,
-}
-
-#[derive(Clone, Copy)]
+// A new book brings the choice of its rulebook; all else is a call on the book as it is.
+#[derive(Clone, Copy, Debug, PartialEq, Eq)]
 pub enum Command {
     New {
         year: u32,
@@ -22,52 +14,35 @@ pub enum Command {
     },
     Enrol {
         number: u32,
+        // kept: what the line says, which is checked where the call is made
         kind: u32,
         capacity: u32,
     },
-    Read {
-        party: u32,
-        slot: u32,
-        power: i32,
-    },
-    Post {
-        party: u32,
-        service: u32,
-        slot: u32,
-        x: i32,
-        y: i32,
-    },
-    PayIn {
-        amount: u32,
-    },
+    Read(Reading),
+    Post(Event),
+    PayIn(u32),
     Publish,
-    Object {
-        place: u32,
-    },
+    Object(u32),
     Answer {
         place: u32,
+        // kept: a yes or no, with no value that only one of the two has
         upheld: bool,
     },
-    WhatIf {
-        place: u32,
-    },
-    AccountSums {
-        party: u32,
-    },
+    WhatIf(u32),
+    AccountSums(u32),
     Settle,
 }
 
-impl Command {
-    // The call on the book that the command asks for.
-    pub fn call(self) -> Call
-        ensures { result ≡ call_of self }
-    {
-        match self {
-            Command::New {
-                year,
-                month,
-                choice: _,
-            } => Call::New { year, month },
+// The call on the book that the command asks for.
+impl From<Command> for Call {
+    ghost use Rattle.std.specs.Prelude.{◌≡◌};
+    ghost use Rattle.console.specs.Calls.{call_of};
+
+    ghost from_gives = { λ command call. call ≡ call_of command };
+
+    fn from(command: Command) -> Call {
+        match command {
+            Command::New { year, month, .. } => Call::New { year, month },
             Command::Enrol {
                 number,
                 kind,
@@ -77,26 +52,14 @@ impl Command {
                 kind,
                 capacity,
             },
-            Command::Read { party, slot, power } => Call::Read(Reading { party, slot, power }),
-            Command::Post {
-                party,
-                service,
-                slot,
-                x,
-                y,
-            } => Call::Post(Event {
-                party,
-                service,
-                slot,
-                x,
-                y,
-            }),
-            Command::PayIn { amount } => Call::PayIn(amount),
+            Command::Read(reading) => Call::Read(reading),
+            Command::Post(event) => Call::Post(event),
+            Command::PayIn(amount) => Call::PayIn(amount),
             Command::Publish => Call::Publish,
-            Command::Object { place } => Call::Object(place),
+            Command::Object(place) => Call::Object(place),
             Command::Answer { place, upheld } => Call::Answer { place, upheld },
-            Command::WhatIf { place } => Call::WhatIf(place),
-            Command::AccountSums { party } => Call::AccountSums(party),
+            Command::WhatIf(place) => Call::WhatIf(place),
+            Command::AccountSums(party) => Call::AccountSums(party),
             Command::Settle => Call::Settle,
         }
     }

@@ -1,21 +1,18 @@
 // One call for a line: the command that it gives is served, and its answer stands on the page.
-ghost use Rattle.std.specs.Prelude.{◌≡◌, length};
-ghost use Rattle.book.specs.Serving.{state_of, Carries, MemoryLeft, SheetLeft};
-ghost use Rattle.settlement.specs.Lent.{room_of};
+ghost use Rattle.std.specs.Prelude.{◌≡◌};
 ghost use Rattle.book.specs.declared.stage.Stage.TheVariants.{NoBook};
-ghost use Rattle.console.specs.declared.command.Choice.TheVariants.{First};
-ghost use Rattle.console.specs.Desks.{means_of, choice_for, Hearing, Answering};
+ghost use Rattle.console.specs.declared.choice.Choice.TheVariants.{First};
+ghost use Rattle.console.specs.Desks.{choice_for, Hearing, Answering};
 
-use crate::command::{Choice, Command};
+use crate::choice::Choice;
+use crate::command::Command;
 use crate::print::print;
 use crate::reader::parse;
 use billing::bill::Bill;
-use book::answer::Answer;
-use book::call::Call;
+use book::answer::{Answer, Denial};
 use book::serving::serve;
 use book::stage::Stage;
 use rules::refusal::Refusal;
-use rules::rulebooks::{rulebook_1, rulebook_2};
 use settlement::memory::Memory;
 
 // A book, and the rulebook that it goes by.
@@ -43,48 +40,25 @@ fn choose(stage: &Stage, command: Command, choice: Choice) -> Choice
     ensures { result ≡ choice_for stage.now command choice }
 {
     match (stage, command) {
-        (
-            Stage::NoBook,
-            Command::New {
-                year: _,
-                month: _,
-                choice: new,
-            },
-        ) => new,
+        (Stage::NoBook, Command::New { choice: new, .. }) => new,
         _ => choice,
-    }
-}
-
-fn serve_by(
-    choice: Choice,
-    stage: Stage,
-    memory: &mut Memory,
-    sheet: &mut [Bill],
-    call: Call,
-) -> (Stage, Answer)
-    ensures carries { Carries (means_of choice) (room_of (length sheet.old) memory.old) (state_of stage memory.old) call result.1 sheet.new (state_of result.0 memory.new) }
-    ensures left { MemoryLeft result.1 (state_of result.0 memory.new) memory.old memory.new }
-    ensures sheet { SheetLeft result.1 sheet.old sheet.new }
-{
-    match choice {
-        Choice::First => serve(stage, memory, sheet, &rulebook_1(), call),
-        Choice::Second => serve(stage, memory, sheet, &rulebook_2(), call),
     }
 }
 
 fn hear(desk: Desk, memory: &mut Memory, sheet: &mut [Bill], line: &[u8]) -> (Desk, Answer)
     ensures { Hearing desk memory.old sheet.old line.now result.1 result.0 memory.new sheet.new }
 {
+    // kept: the desk goes back with the refusal, so `?` has nothing to hand on
     let Some(command) = parse(line) else {
-        return (desk, Answer::Refused(Refusal::Unreadable));
+        return (desk, Err(Denial::Refused(Refusal::Unreadable)));
     };
-    let Desk { stage, choice } = desk;
-    let choice = choose(&stage, command, choice);
-    let (stage, answer) = serve_by(choice, stage, memory, sheet, command.call());
+    let choice = choose(&desk.stage, command, desk.choice);
+    let (stage, answer) = serve(desk.stage, memory, sheet, &choice, command.into());
     (Desk { stage, choice }, answer)
 }
 
 // Gives the length of the answer's text on the page.
+// kept: the memory, the sheet and the page may be others at each call; a caller with the same ones has an Office
 pub fn answer_line(
     desk: Desk,
     memory: &mut Memory,

@@ -1,44 +1,52 @@
 // The bytes of a line as they come in.
-ghost use Rattle.std.specs.Prelude.{◌≡◌, ◌≤◌, [], ◌∷◌, ◌++◌, length, take};
+ghost use Rattle.std.specs.Prelude.{◌≡◌, [], ◌∷◌, ◌++◌, take};
+
+use arrayvec::ArrayVec;
+use std::marker::Model;
 
 // One byte more than a readable line has: a longer line is cut there, and stays unreadable.
 const MOST: usize = 65;
 
 #[derive(Drop)]
 pub struct Line {
-    bytes: [u8; MOST],
-    used: usize,
-    ghost within: { used ≤ 65 },
+    bytes: ArrayVec<u8, MOST>,
+}
+
+// A line is the list of its bytes.
+impl Model for Line {
+    ghost use Rattle.std.specs.Prelude.{ℕ, List};
+
+    ghost Value = { List ℕ };
+
+    ghost view = { λ line. line.bytes.items };
 }
 
 impl Line {
     pub fn new() -> Line
-        ensures { take result.used result.bytes ≡ [] }
+        ensures { result ≡ [] }
     {
         Line {
-            bytes: [0; MOST],
-            used: 0,
+            bytes: ArrayVec::new(),
         }
     }
 
     pub fn bytes(&self) -> &[u8]
-        ensures { result.now ≡ take self.now.used self.now.bytes }
+        ensures { result.now ≡ self.now }
     {
-        &self.bytes[0..self.used]
+        self.bytes.as_slice()
     }
 
     pub fn clear(&mut self)
-        ensures { take self.new.used self.new.bytes ≡ [] }
+        ensures { self.new ≡ [] }
     {
-        self.used = 0;
+        self.bytes.clear();
     }
 
     pub fn push(&mut self, byte: u8)
-        ensures { take self.new.used self.new.bytes ≡ take 65 (take self.old.used self.old.bytes ++ (byte ∷ [])) }
+        ensures { self.new ≡ take 65 (self.old ++ (byte ∷ [])) }
     {
-        if self.used < MOST {
-            self.bytes[self.used] = byte;
-            self.used += 1;
+        if !self.bytes.is_full() {
+            self.bytes.push(byte);
         }
     }
 }

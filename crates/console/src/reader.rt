@@ -1,12 +1,18 @@
 // A line, read as a command.
-ghost use Rattle.std.specs.Prelude.{◌≡◌, ◌^◌, ◌<◌, ◌≤◌, length, pos, neg_ℤ, IfSome, if◌then◌else◌};
-ghost use Rattle.console.specs.Grammar.{Exactly};
-ghost use Rattle.console.specs.Format.{Reads, Took, TookDigit, is_empty, numeral, unsigned, signed, new, enrol, meter, event, answer, body, parsed};
+ghost use Rattle.std.specs.Prelude.{◌≡◌, ◌^◌, ◌<◌, ◌≤◌, true, ◌++◌, length, pos, neg_ℤ, IfSome, if◌then◌else◌};
+ghost use Rattle.std.specs.Char.{is_ascii_digit};
+ghost use Rattle.std.specs.List.{take_while};
+ghost use Rattle.std.specs.Str.{all_ascii_digits};
+ghost use Rattle.console.specs.Grammar.{Exactly, read_on};
+ghost use Rattle.console.specs.Format.{Reads, Took, LacksDigit, numeral, unsigned, signed, new, enrol, meter, event, answer, body, parsed};
 
-use crate::command::{Choice, Command};
+use crate::choice::Choice;
+use crate::command::Command;
+use billing::reading::Reading;
+use records::event::Event;
 
 // The longest number that a field may hold, in digits.
-const MOST_DIGITS: u32 = 9;
+const MOST_DIGITS: usize = 9;
 
 // The longest line that is read.
 const MOST_BYTES: usize = 64;
@@ -25,31 +31,43 @@ fn with_sign(minus: bool, size: u32) -> i32
     if minus { -(size as i32) } else { size as i32 }
 }
 
+// How many digits stand at the front.
+fn leading_digits(text: &[u8]) -> usize
+    ensures { result ≡ length (take_while is_ascii_digit text.now) }
+{
+    text.iter().take_while(|byte| byte.is_ascii_digit()).count()
+}
+
+// The digits at the front, and what follows them.
+fn split_digits(text: &[u8]) -> (&[u8], &[u8])
+    ensures whole { text.now ≡ result.0.now ++ result.1.now }
+    ensures digits { all_ascii_digits result.0.now ≡ true }
+    ensures stops { LacksDigit result.1.now }
+{
+    text.split_at(leading_digits(text))
+}
+
+// The number that the digits write.
+fn value(digits: &[u8]) -> u32
+    requires digits { all_ascii_digits digits.now ≡ true }
+    requires few { length digits.now ≤ 9 }
+    ensures value { result ≡ read_on 0 digits.now }
+    ensures short { result < 10 ^ 9 }
+{
+    let mut value = 0;
+    for digit in digits {
+        value = value * 10 + u32::from(*digit - b'0');
+    }
+    value
+}
+
 impl Reader<'_> {
     // Takes `byte` if it comes next.
-    fn take(&mut self, byte: u8) -> bool
+    fn take(&mut self, byte: u8) -> Option<()>
         ensures { Took byte self.old.rest.now result self.new.rest.now }
     {
-        match self.rest.split_first() {
-            Some((first, rest)) if *first == byte => {
-                self.rest = rest;
-                true
-            }
-            _ => false,
-        }
-    }
-
-    // Takes a digit if one comes next.
-    fn digit(&mut self) -> Option<u8>
-        ensures { TookDigit self.old.rest.now result self.new.rest.now }
-    {
-        match self.rest.split_first() {
-            Some((first, rest)) if first.is_ascii_digit() => {
-                self.rest = rest;
-                Some(*first - b'0')
-            }
-            _ => None,
-        }
+        self.rest = self.rest.strip_prefix(&[byte])?;
+        Some(())
     }
 
     // One digit to nine, and no digit after them.
@@ -57,41 +75,28 @@ impl Reader<'_> {
         ensures reads { Reads (numeral 9 0) self.old.rest.now result self.new.rest.now }
         ensures short { IfSome result (λ n. n < 10 ^ 9) }
     {
-        let mut value = 0;
-        let mut room = MOST_DIGITS;
-        while let Some(digit) = self.digit() {
-            if room == 0 {
-                return None;
-            }
-            room -= 1;
-            value = value * 10 + u32::from(digit);
+        let (digits, rest) = split_digits(self.rest);
+        self.rest = rest;
+        if digits.is_empty() || digits.len() > MOST_DIGITS {
+            return None;
         }
-        if room == MOST_DIGITS {
-            None
-        } else {
-            Some(value)
-        }
+        Some(value(digits))
     }
 
     // A space and a number.
     fn unsigned(&mut self) -> Option<u32>
         ensures { Reads unsigned self.old.rest.now result self.new.rest.now }
     {
-        if self.take(b' ') {
-            self.numeral()
-        } else {
-            None
-        }
+        self.take(b' ')?;
+        self.numeral()
     }
 
     // A space and a number, with a minus before it or none.
     fn signed(&mut self) -> Option<i32>
         ensures { Reads signed self.old.rest.now result self.new.rest.now }
     {
-        if !self.take(b' ') {
-            return None;
-        }
-        let minus = self.take(b'-');
+        self.take(b' ')?;
+        let minus = self.take(b'-').is_some();
         let size = self.numeral()?;
         Some(with_sign(minus, size))
     }
@@ -101,11 +106,7 @@ impl Reader<'_> {
     {
         let year = self.unsigned()?;
         let month = self.unsigned()?;
-        let choice = match self.unsigned()? {
-            1 => Choice::First,
-            2 => Choice::Second,
-            _ => return None,
-        };
+        let choice = Choice::try_from(self.unsigned()?).ok()?;
         Some(Command::New {
             year,
             month,
@@ -132,7 +133,7 @@ impl Reader<'_> {
         let party = self.unsigned()?;
         let slot = self.unsigned()?;
         let power = self.signed()?;
-        Some(Command::Read { party, slot, power })
+        Some(Command::Read(Reading { party, slot, power }))
     }
 
     fn event(&mut self) -> Option<Command>
@@ -143,13 +144,13 @@ impl Reader<'_> {
         let slot = self.unsigned()?;
         let x = self.signed()?;
         let y = self.signed()?;
-        Some(Command::Post {
+        Some(Command::Post(Event {
             party,
             service,
             slot,
             x,
             y,
-        })
+        }))
     }
 
     fn answer(&mut self) -> Option<Command>
@@ -173,20 +174,12 @@ impl Reader<'_> {
             'E' => self.enrol(),
             'R' => self.meter(),
             'V' => self.event(),
-            'F' => Some(Command::PayIn {
-                amount: self.unsigned()?,
-            }),
+            'F' => self.unsigned().map(Command::PayIn),
             'P' => Some(Command::Publish),
-            'O' => Some(Command::Object {
-                place: self.unsigned()?,
-            }),
+            'O' => self.unsigned().map(Command::Object),
             'A' => self.answer(),
-            'T' => Some(Command::WhatIf {
-                place: self.unsigned()?,
-            }),
-            'Q' => Some(Command::AccountSums {
-                party: self.unsigned()?,
-            }),
+            'T' => self.unsigned().map(Command::WhatIf),
+            'Q' => self.unsigned().map(Command::AccountSums),
             'S' => Some(Command::Settle),
             _ => None,
         }
@@ -209,9 +202,5 @@ fn read_line(line: &[u8]) -> Option<Command>
     let (letter, rest) = line.split_first()?;
     let mut reader = Reader { rest };
     let command = reader.body(*letter as char)?;
-    if reader.rest.is_empty() {
-        Some(command)
-    } else {
-        None
-    }
+    reader.rest.is_empty().then_some(command)
 }

@@ -1,10 +1,9 @@
 -- Where a month starts, found from its end. Assumes nothing.
-use Rattle.std.proofs.Common.{◌≡◌, ℕ, zero, suc, ◌+◌, ◌<◌, ◌≤◌, true, false, cond, ◌||◌, List, [], ◌∷◌, length, get_or, drop, sym, refl, ap, ◌∙◌, subst, arith}
-use Rattle.std.proofs.lemmas.List.{drop_more}
-use Rattle.std.proofs.lemmas.Bool.{cond-true, cond-false, eq-eqb, ne_eqb, or_left, or_right}
+use Rattle.std.proofs.Common.{◌≡◌, ℕ, zero, suc, ◌+◌, ◌<◌, ◌≤◌, true, false, cond, ◌||◌, List, [], ◌∷◌, length, get_or, drop, MatchOption, Some, None, Option, sym, refl, ap, ◌∙◌, subst, arith}
+use Rattle.std.proofs.lemmas.List.{drop_more, get_or-drop, length-drop}
+use Rattle.std.proofs.lemmas.Bool.{cond-true, cond-false, eq-eqb, ne_eqb, or_left, or_right, or_from}
 use Rattle.records.specs.Words.{kind}
-use Rattle.records.specs.Journal.{has_end, month_start, posts, posted}
-use Rattle.records.specs.declared.event.Event.{Event}
+use Rattle.records.specs.Journal.{has_end, month_start}
 
 -- a word that ends a month
 ends_at : (ws : List ℕ) (i : ℕ) → i < length ws → kind (get_or ws i 0) ≡ 6 → has_end ws ≡ true
@@ -33,6 +32,22 @@ starts_by (w ∷ ws) (suc i) e =
     let P : ℕ → Type 0 = λ n. n ≤ suc i in
     elim (has_end (w ∷ ws)) as (λ b. P (cond b (suc (month_start ws)) 0)) [ true ↦ omega (arith, starts_by ws i e) | false ↦ omega arith ]
 
+-- no word ends a month
+none_ends : (ws : List ℕ) → ((k : ℕ) → k < length ws → ¬ (kind (get_or ws k 0) ≡ 6)) → has_end ws ≡ false
+none_ends [] h = refl
+none_ends (w ∷ ws) h = or_from _ _ (ne_eqb _ 6 (h 0 (omega arith))) (none_ends ws (λ k l. h (suc k) (omega arith)))
+
+-- what is found from the end back is the last word that ends a month, if there is one
+pub found_last : (ws : List ℕ) (r : Option ℕ) (n : ℕ)
+    → MatchOption r ((k : ℕ) → k < length ws → ¬ (kind (get_or ws k 0) ≡ 6)) (λ i. (i < length ws) × (kind (get_or ws i 0) ≡ 6) × ((k : ℕ) → i < k → k < length ws → ¬ (kind (get_or ws k 0) ≡ 6)))
+    → MatchOption r (n ≡ 0) (λ i. n ≡ i + 1) → n ≡ month_start ws
+found_last ws None n f e = e ∙ sym (starts_first ws (none_ends ws f))
+found_last ws (Some i) n f e =
+    let after : has_end (drop (i + 1) ws) ≡ false =
+    none_ends (drop (i + 1) ws) (λ k l z. f.2 (i + 1 + k) (omega arith) (omega (arith, length-drop (i + 1) ws)) (sym (ap kind (get_or-drop (i + 1) ws k 0)) ∙ z)) in
+    e ∙ sym (ends_last ws i f.0 f.1 after)
+
+-- The word before the n-th, which is looked at next.
 -- The word before the n-th, which is looked at next.
 module _ (ws : List ℕ) (i n : ℕ) (next : i + 1 ≡ n) (within : i < length ws) where
   -- it ends a month, the last one
@@ -42,20 +57,3 @@ module _ (ws : List ℕ) (i n : ℕ) (next : i + 1 ≡ n) (within : i < length w
   -- it ends none
   pub none_more : (kind (get_or ws i 0) ≡ 6 → ⊥) → has_end (drop n ws) ≡ false → has_end (drop i ws) ≡ false
   none_more k e = ap has_end (drop_more ws i 0 within) ∙ (ap (λ b. b || has_end (drop (i + 1) ws)) (ne_eqb _ 6 k) ∙ (ap (λ m. has_end (drop m ws)) next ∙ e))
-
-  -- whether it, or a word after it, begins an event like e
-  pub posted_next : (e : Event) → posted e (drop i ws) ≡ (posts e (get_or ws i 0) || posted e (drop n ws))
-  posted_next e = ap (posted e) (drop_more ws i 0 within) ∙ ap (λ m. posts e (get_or ws i 0) || posted e (drop m ws)) next
-
-posted_all : (e : Event) (ws : List ℕ) (i : ℕ) → posted e (drop i ws) ≡ true → posted e ws ≡ true
-posted_all e [] zero p = p
-posted_all e [] (suc i) p = p
-posted_all e (w ∷ ws) zero p = p
-posted_all e (w ∷ ws) (suc i) p = or_right _ _ (posted_all e ws i p)
-
--- what was posted among some words was posted among more
-pub posted_more : (e : Event) (ws : List ℕ) (s i : ℕ) → s ≤ i → posted e (drop i ws) ≡ true → posted e (drop s ws) ≡ true
-posted_more e ws zero i h p = posted_all e ws i p
-posted_more e ws (suc s) zero h p = absurd (omega arith)
-posted_more e [] (suc s) (suc i) h p = p
-posted_more e (w ∷ ws) (suc s) (suc i) h p = posted_more e ws s i (omega arith) p

@@ -1,5 +1,7 @@
 -- The used words of a journal, whatever they hold. Assumes nothing.
-use Rattle.std.specs.Prelude.{◌≡◌, ℕ, suc, ◌+◌, ◌/◌, ◌%◌, ◌<◌, ◌≤◌, min, Bool, true, false, cond, ◌&&◌, ◌||◌, List, [], ◌∷◌, ◌++◌, length, take, drop, Some, None, Option, ◌==◌, nat_le, slice_index, slice_set}
+use Rattle.std.specs.Prelude.{◌≡◌, ℕ, suc, ◌+◌, ◌/◌, ◌%◌, ◌<◌, ◌≤◌, min, Bool, false, true, cond, ◌&&◌, ◌||◌, List, [], ◌∷◌, ◌++◌, length, take, drop, Some, None, Ok, Err, Option, Result, ◌==◌, nat_le, slice_index, slice_set}
+use Rattle.rules.specs.declared.refusal.Refusal.{Refusal}
+use Rattle.rules.specs.declared.refusal.Refusal.TheVariants.{JournalFull}
 use Rattle.records.specs.declared.event.Event.{Event}
 use Rattle.records.specs.declared.event.Mark.{Mark}
 use Rattle.records.specs.declared.event.Mark.TheVariants.{Standing, Struck}
@@ -83,9 +85,10 @@ pub record Unwritten (used : ℕ) (new before after : List ℕ) : Type 0 where
   pub full : min (length before) 1_048_576 < used + length new
   pub same : after ≡ before
 
-abbrev pub Appending : ℕ → List ℕ → List ℕ → Bool → List ℕ → Type 0
-Appending used new before true after = Appended used new before after
-Appending used new before false after = Unwritten used new before after
+-- What is answered, and what the journal then holds.
+abbrev pub Appending : ℕ → List ℕ → List ℕ → Result (Unit {0}) Refusal → List ℕ → Type 0
+Appending used new before (Ok _) after = Appended used new before after
+Appending used new before (Err reason) after = (reason ≡ JournalFull) × Unwritten used new before after
 
 -- Of the used words the one at the place is struck, and those past them are as they were.
 pub record Striking (used place : ℕ) (before after : List ℕ) : Type 0 where

@@ -1,10 +1,21 @@
 -- The journal's words of 32 bits: the top three bits are a word's kind, the low 29 its content. Assumes nothing.
 use Rattle.std.specs.Prelude.{◌≡◌, ℕ, ◌+◌, ◌*◌, ◌/◌, ◌%◌, ◌<◌, ◌≤◌, Bool, ◌&&◌, List, [], ◌∷◌, ℤ, pos, ◌+ℤ◌, ◌-ℤ◌, nat_le, slice_index, unsigned_abs}
 use Rattle.records.specs.declared.event.Event.{Event}
+use Rattle.records.specs.declared.event.WordKind.{WordKind}
+use Rattle.records.specs.declared.event.WordKind.TheVariants.{Standing, Struck, First, Second, PaidIn, MonthEnd}
 
 -- the kind: 1 an event, 2 a struck event, 3 and 4 an event's quantities, 5 money paid in, 6 a month's end
 abbrev pub kind : ℕ → ℕ
 kind w = w / 536_870_912
+
+-- the number of a kind
+abbrev pub kind_number : WordKind → ℕ
+kind_number Standing = 1
+kind_number Struck = 2
+kind_number First = 3
+kind_number Second = 4
+kind_number PaidIn = 5
+kind_number MonthEnd = 6
 
 -- the content
 abbrev pub content : ℕ → ℕ

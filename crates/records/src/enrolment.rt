@@ -6,7 +6,13 @@ use crate::event::Event;
 use rules::facts::Facts;
 use rules::kind::Kind;
 
-#[derive(Clone, Copy)]
+// The largest number that a party may have.
+pub const MOST_NUMBER: u32 = 1023;
+
+// The largest capacity, reading or quantity of an event, either way.
+pub const MOST_FIGURE: u32 = 4_000_000;
+
+#[derive(Clone, Copy, Debug, PartialEq, Eq)]
 pub struct Enrolment {
     pub number: u32,
     pub kind: Kind,

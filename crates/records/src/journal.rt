@@ -2,23 +2,19 @@
 ghost use Rattle.std.specs.Prelude.{◌≡◌, ℕ, ◌≤◌, length, take};
 ghost use Rattle.records.specs.Journal.{month_start, this_month, posts, posted, first_event, Marked, EventThere, Appending, Striking};
 
-use crate::event::{
-    Event, FIRST, MONTH_END, Mark, SECOND, STANDING, STRUCK, content, kind, quantity, word,
-};
+use crate::event::{Event, Mark, WordKind, content, figures, quantity};
+use rules::refusal::Refusal;
 
 // A journal never uses more words.
 pub const MOST_WORDS: usize = 1_048_576;
 
 // The used words, as far as the journal has them.
+// kept: lent memory, of which the month keeps how much is used: `words` and `used` are two parameters, here and below
 pub fn used_words(words: &[u32], used: usize) -> &[u32]
     ensures words { result.now ≡ take used words.now }
     ensures few { length result.now ≤ used }
 {
-    if used < words.len() {
-        &words[0..used]
-    } else {
-        words
-    }
+    &words[0..used.min(words.len())]
 }
 
 // The place after the last month's end, or 0.
@@ -26,12 +22,10 @@ pub fn month_start(words: &[u32]) -> usize
     ensures start { result ≡ month_start words.now }
     ensures within { result ≤ length words.now }
 {
-    for i in (0..words.len()).rev() {
-        if kind(words[i]) == MONTH_END {
-            return i + 1;
-        }
-    }
-    0
+    words
+        .iter()
+        .rposition(|word| WordKind::MonthEnd.is_of(*word))
+        .map_or(0, |end| end + 1)
 }
 
 // This month's words.
@@ -47,69 +41,66 @@ pub fn this_month(words: &[u32]) -> &[u32]
 fn is_post(word: u32, event: &Event) -> bool
     ensures { result ≡ posts event.now word }
 {
-    (kind(word) == STANDING || kind(word) == STRUCK)
-        && content(word) / 524_288 == event.party
-        && content(word) / 16_384 % 32 == event.service
-        && content(word) % 16_384 == event.slot
+    (WordKind::Standing.is_of(word) || WordKind::Struck.is_of(word))
+        && figures(word) == (event.party, event.service, event.slot)
 }
 
 // An event of that party, service and slot was posted this month, struck or not.
 pub fn posted_already(words: &[u32], event: &Event) -> bool
     ensures { result ≡ posted event.now (this_month words.now) }
 {
-    for i in (0..words.len()).rev() {
-        if kind(words[i]) == MONTH_END {
-            return false;
-        }
-        if is_post(words[i], event) {
-            return true;
-        }
-    }
-    false
+    words
+        .iter()
+        .rev()
+        .find(|word| WordKind::MonthEnd.is_of(**word) || is_post(**word, event))
+        .is_some_and(|word| is_post(*word, event))
 }
 
-// Writes new words, of an event, a pay-in or a month's end, after the used ones where they fit, and says whether they did.
-pub fn append(words: &mut [u32], used: usize, new: &[u32]) -> bool
+// Writes new words, of an event, a pay-in or a month's end, after the used ones. Where they do not fit, the journal is full.
+pub fn append(words: &mut [u32], used: usize, new: &[u32]) -> Result<(), Refusal>
     ensures { Appending used new.now words.old result words.new }
 {
     let most = words.len().min(MOST_WORDS);
     let n = new.len();
     if used > most || most - used < n {
-        return false;
+        return Err(Refusal::JournalFull);
     }
     words[used..used + n].copy_from_slice(new);
-    true
+    Ok(())
 }
 
 // The standing event that the words begin with.
 pub(crate) fn first_event(words: &[u32]) -> Option<Event>
     ensures { result ≡ first_event words.now }
 {
-    let [head, x, y, ..] = words else {
-        return None;
-    };
-    if kind(*head) != STANDING || kind(*x) != FIRST || kind(*y) != SECOND {
-        return None;
+    match words {
+        [head, x, y, ..]
+            if WordKind::Standing.is_of(*head)
+                && WordKind::First.is_of(*x)
+                && WordKind::Second.is_of(*y) => {
+            let (party, service, slot) = figures(*head);
+            Some(Event {
+                party,
+                service,
+                slot,
+                x: quantity(*x),
+                y: quantity(*y),
+            })
+        }
+        _ => None,
     }
-    Some(Event {
-        party: content(*head) / 524_288,
-        service: content(*head) / 16_384 % 32,
-        slot: content(*head) % 16_384,
-        x: quantity(*x),
-        y: quantity(*y),
-    })
 }
 
 // Whether an event of this month begins at the place, and stands or was struck.
 pub fn mark_at(words: &[u32], place: usize) -> Option<Mark>
     ensures { Marked place words.now result }
 {
-    if place < month_start(words) || place >= words.len() {
+    if !(month_start(words)..words.len()).contains(&place) {
         return None;
     }
-    match kind(words[place]) {
-        STANDING => Some(Mark::Standing),
-        STRUCK => Some(Mark::Struck),
+    match words[place] {
+        word if WordKind::Standing.is_of(word) => Some(Mark::Standing),
+        word if WordKind::Struck.is_of(word) => Some(Mark::Struck),
         _ => None,
     }
 }
@@ -118,7 +109,7 @@ pub fn mark_at(words: &[u32], place: usize) -> Option<Mark>
 pub fn event_at(words: &[u32], place: usize) -> Option<Event>
     ensures { EventThere place words.now result }
 {
-    if place < month_start(words) || place >= words.len() {
+    if !(month_start(words)..words.len()).contains(&place) {
         return None;
     }
     first_event(&words[place..])
@@ -129,6 +120,6 @@ pub fn strike(words: &mut [u32], used: usize, place: usize)
     ensures { Striking used place words.old words.new }
 {
     if place < used && place < words.len() {
-        words[place] = word(STRUCK, content(words[place]));
+        words[place] = WordKind::Struck.word(content(words[place]));
     }
 }

@@ -1,18 +1,32 @@
 -- Lemmas on lists of numbered lines. Assumes nothing.
-use Rattle.std.proofs.Common.{◌≡◌, ℕ, ◌+◌, ◌-◌, ◌<◌, ◌≤◌, cond, eqb, ltb, List, ◌++◌, length, get_or, take, drop, set, Some, sym, ap, ◌∙◌, subst, ⊎_elim, eq-or-lt_of_le, arith, rules}
-use Rattle.std.proofs.lemmas.List.{get_or-set_same, get_or-take, length-take-le, drop_more, places, same_lists, at_drop_more}
-use Rattle.std.specs.List.{insert, remove}
+use Rattle.std.proofs.Common.{◌≡◌, ℕ, ◌+◌, ◌-◌, ◌<◌, ◌≤◌, nat_lt, List, [], ◌∷◌, ◌++◌, length, get_or, take, drop, set, Some, None, sym, ap, ◌∙◌, subst, ⊎_elim, zero-add, eq-or-lt_of_le, arith, rules}
+use Rattle.std.proofs.lemmas.Iterator.Adapters.{position_from-zero}
+use Rattle.std.proofs.lemmas.List.{get_or-set_same, get_or-take, length-take-le, drop_more, places, same_lists}
+use Rattle.std.proofs.lemmas.List.Quantifiers.{position-Some}
+use Rattle.std.proofs.lemmas.Option.{slice_get-get_or}
+use Rattle.std.specs.Prelude.{◌==◌, unwrap_or}
+use Rattle.std.specs.List.{insert, remove, slice_get, position_from}
 use Rattle.std.proofs.lemmas.Bool.{cases_lt, cases_eq}
+use Rattle.std.proofs.lemmas.Bool.Decides.{nat_tests}
 use borrow.Rule.Slice.PartMut.{put_mid}
-use Rattle.register.specs.Numbered.{first_from, place_from}
+use Rattle.register.specs.Numbered.{first_at, place_at, place_from}
 
--- One line of a search.
-module _ {R : Type 0} (number : R → ℕ) (n : ℕ) (xs : List R) (i : ℕ) (x : R) (within : i < length xs) (read : x ≡ get_or xs i x) where
-  pub first_more : first_from number n i (drop i xs) ≡ cond (eqb (number x) n) (Some i) (first_from number n (i + 1) (drop (i + 1) xs))
-  first_more = at_drop_more (first_from number n i) xs i x within ∙ ap (λ y. cond (eqb (number y) n) (Some i) (first_from number n (i + 1) (drop (i + 1) xs))) (sym read)
+-- Where a search ends.
+module _ {R : Type 0} (number : R → ℕ) (n : ℕ) where
+  pub first_read : (xs : List R) (i : ℕ) → Some i ≡ first_at number n xs → slice_get xs i ≡ None → ⊥
+  first_read [] i e none = cc
+  first_read (x ∷ xs) i e none =
+      let has = λ (y : R). number y == n in
+      let within : i < length (x ∷ xs) = (position-Some has (x ∷ xs) i x (position_from-zero has (x ∷ xs) ∙ sym e)).0 in
+      let read = slice_get-get_or (x ∷ xs) i x within in
+      cc
 
-  pub place_more : place_from number n i (drop i xs) ≡ cond (ltb n (number x)) i (place_from number n (i + 1) (drop (i + 1) xs))
-  place_more = at_drop_more (place_from number n i) xs i x within ∙ ap (λ y. cond (ltb n (number y)) i (place_from number n (i + 1) (drop (i + 1) xs))) (sym read)
+  place_more : (i : ℕ) (xs : List R) → place_from number n i xs ≡ unwrap_or (position_from (λ y. nat_lt n (number y)) i xs) (i + length xs)
+  place_more i [] = omega arith
+  place_more i (x ∷ xs) = let later = place_more (i + 1) xs in grind (arith, nat_tests)
+
+  pub place_is : (xs : List R) → place_at number n xs ≡ unwrap_or (position_from (λ y. nat_lt n (number y)) 0 xs) (length xs)
+  place_is xs = simp zero-add at (place_more 0 xs)
 
 -- What a write and a rotation within the lines in use leave of them.
 module _ {R : Type 0} (xs : List R) (used i : ℕ) where

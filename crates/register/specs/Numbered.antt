@@ -1,11 +1,10 @@
 -- Lists of numbered lines, whatever they hold. Assumes nothing.
-use Rattle.std.specs.Prelude.{◌≡◌, ℕ, ◌+◌, ◌<◌, cond, List, [], ◌∷◌, Some, None, Option, ◌==◌, nat_lt}
-use Rattle.std.specs.List.{slice_get, remove}
+use Rattle.std.specs.Prelude.{◌≡◌, ℕ, ◌+◌, ◌<◌, cond, List, [], ◌∷◌, Some, Option, ◌==◌, nat_lt}
+use Rattle.std.specs.List.{slice_get, remove, position_from}
 
 -- the place, counted from i on, of the first line with the number n
 abbrev pub first_from : {R : Type 0} → (R → ℕ) → ℕ → ℕ → List R → Option ℕ
-first_from number n i [] = None
-first_from number n i (x ∷ xs) = cond (number x == n) (Some i) (first_from number n (i + 1) xs)
+first_from number n i xs = position_from (λ x. number x == n) i xs
 
 abbrev pub first_at : {R : Type 0} → (R → ℕ) → ℕ → List R → Option ℕ
 first_at number n xs = first_from number n 0 xs

@@ -2,14 +2,10 @@
 // comes with them, the first `count` lines are the register's, never more than LIMIT or than there are lines.
 #![tactic(auto)]
 
-ghost use Rattle.std.specs.Prelude.{◌≡◌, ℕ, ◌≤◌, [], length, IfSome, slice_set};
+ghost use Rattle.std.specs.Prelude.{◌≡◌, ℕ, ◌≤◌, [], length, IfSome, option_map, slice_set};
 ghost use Rattle.std.specs.List.{slice_get};
 ghost use Rattle.register.specs.Numbered.{first_at, place_at, without, Rising, Only};
 ghost use Rattle.register.specs.Held.{count, held, Insertion, Rises, StaysRising, LaidBy, Kept};
-
-mod search;
-
-use search::{find_in, place_in};
 
 // A record that goes by a number.
 pub trait Keyed {
@@ -19,6 +15,7 @@ pub trait Keyed {
         ensures { result ≡ number self.now };
 }
 
+// kept: lent memory, whose length the caller chose, with the count of the lines in use; a library crate has no heap
 #[derive(Drop)]
 pub struct Register<'a, R: Keyed, const LIMIT: usize> {
     lines: &'a mut [R],
@@ -26,7 +23,7 @@ pub struct Register<'a, R: Keyed, const LIMIT: usize> {
 }
 
 // A register has no line left.
-#[derive(Clone, Copy)]
+#[derive(Clone, Copy, Debug, PartialEq, Eq)]
 pub struct Full;
 
 impl<'a, R: Keyed + Copy, const LIMIT: usize> Register<'a, R, LIMIT> {
@@ -56,7 +53,7 @@ impl<'a, R: Keyed + Copy, const LIMIT: usize> Register<'a, R, LIMIT> {
     {
         let n = self.count();
         let lines = &*self.lines;
-        &lines[0..n]
+        &lines[..n]
     }
 
     // The first line with that number; where lines rise, the only one.
@@ -64,19 +61,24 @@ impl<'a, R: Keyed + Copy, const LIMIT: usize> Register<'a, R, LIMIT> {
         ensures first { result ≡ first_at R.number number (held self.now) }
         ensures only { Rising R.number (held self.now) → IfSome result (Only R.number number (held self.now)) }
     {
-        find_in(self.held(), number)
+        self.held().iter().position(|line| line.key() == number)
+    }
+
+    // The first line with that number, and where it stands.
+    pub fn lookup(&self, number: u32) -> Option<(usize, R)>
+        ensures first { option_map (λ p. p.0) result ≡ first_at R.number number (held self.now) }
+        ensures line { IfSome result (λ p. Some p.1 ≡ slice_get (held self.now) p.0) }
+        ensures only { Rising R.number (held self.now) → IfSome result (λ p. Only R.number number (held self.now) p.0) }
+    {
+        let i = self.find(number)?;
+        Some((i, self.get(i)?))
     }
 
     // The line at i.
     pub fn get(&self, i: usize) -> Option<R>
         ensures { result ≡ slice_get (held self.now) i }
     {
-        let lines = self.held();
-        if i < lines.len() {
-            Some(lines[i])
-        } else {
-            None
-        }
+        self.held().get(i).copied()
     }
 
     // Where the first line with a larger number stands.
@@ -84,7 +86,11 @@ impl<'a, R: Keyed + Copy, const LIMIT: usize> Register<'a, R, LIMIT> {
         ensures place { result ≡ place_at R.number number (held self.now) }
         ensures within { result ≤ count self.now }
     {
-        place_in(self.held(), number)
+        let lines = self.held();
+        lines
+            .iter()
+            .position(|line| line.key() > number)
+            .unwrap_or(lines.len())
     }
 
     // Puts the line in front of the first one with a larger number.
@@ -124,6 +130,7 @@ impl<'a, R: Keyed + Copy, const LIMIT: usize> Register<'a, R, LIMIT> {
         ensures rises { IfSome (slice_get (held self.old) i) (λ old. R.number line ≡ R.number old) → StaysRising R.number self.old self.new }
         ensures kept { Kept self.old self.new }
     {
+        // kept: the library's `get_mut` of a slice does not say what the slice holds after a write through it
         if i < self.count() {
             self.lines[i] = line;
         }

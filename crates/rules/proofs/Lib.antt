@@ -1,4 +1,3 @@
-pub mod Bands
 pub mod Books
 pub mod Changes
 pub mod Members

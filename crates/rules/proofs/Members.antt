@@ -1,16 +1,26 @@
--- A search of a list of kinds: at a place where the kind is, it is one of them; else it is one of those after it.
-use Rattle.std.proofs.Common.{◌≡◌, ℕ, ◌+◌, ◌<◌, ◌≤◌, true, false, List, length, get_or, drop, ◌∙◌}
-use Rattle.std.proofs.lemmas.List.{at_drop_more, at_drop_all}
-use Rattle.std.proofs.lemmas.Bool.{eq-eqb, ne_eqb, or_left}
+-- What `==` of kinds, and a search of a list of kinds by it, say in the words of the definitions. Assumes nothing.
+use Rattle.std.proofs.Common.{◌≡◌, suc, ◌||◌, List, [], ◌∷◌, refl, sym, ap, ◌∙◌}
+use Rattle.std.specs.List.{list_any}
+use denote.Enum.Bare.{sameb}
+use denote.Enum.Declared.{tag_of}
+use lib.Dec.{eqb-suc-suc}
+use Rattle.rules.specs.contracts.kind.Kind.{the_type}
 use Rattle.rules.specs.declared.kind.Kind.{Kind}
-use Rattle.rules.specs.Kinds.{kind_number, one_of}
+use Rattle.rules.specs.declared.kind.Kind.TheVariants.{Coal, Gas, Hydro, Wind, Solar, Storage, Market}
+use Rattle.rules.specs.Kinds.{kind_number, is, one_of}
 
-module _ (kinds : List Kind) (i : ℕ) (d k : Kind) (in_List : i < length kinds) where
-  pub member_here : kind_number (get_or kinds i d) ≡ kind_number k → one_of (drop i kinds) k ≡ true
-  member_here h = at_drop_more (λ ks. one_of ks k) kinds i d in_List ∙ or_left _ _ (eq-eqb _ _ h)
+number : (k : Kind) → kind_number k ≡ suc (tag_of the_type k)
+number Coal = refl
+number Gas = refl
+number Hydro = refl
+number Wind = refl
+number Solar = refl
+number Storage = refl
+number Market = refl
 
-  pub member_later : (kind_number (get_or kinds i d) ≡ kind_number k → ⊥) → one_of (drop i kinds) k ≡ one_of (drop (i + 1) kinds) k
-  member_later h = at_drop_more (λ ks. one_of ks k) kinds i d in_List ∙ rw (ne_eqb _ _ h)
+same_kind : (j k : Kind) → sameb the_type j k ≡ is j k
+same_kind j k = rw (number j, number k) (sym (eqb-suc-suc _ _))
 
-pub member_none : (kinds : List Kind) (i : ℕ) (k : Kind) → length kinds ≤ i → one_of (drop i kinds) k ≡ false
-member_none kinds i k h = at_drop_all (λ ks. one_of ks k) kinds i h
+pub member : (kinds : List Kind) (k : Kind) → list_any (λ j. sameb the_type j k) kinds ≡ one_of kinds k
+member [] k = refl
+member (j ∷ kinds) k = ap (λ first. first || list_any (λ i. sameb the_type i k) kinds) (same_kind j k) ∙ ap (λ later. is j k || later) (member kinds k)

@@ -1,7 +1,11 @@
 -- Which facts lie in range, whatever the service. Assumes nothing.
-use Rattle.std.specs.Prelude.{ℕ, ◌≤◌, Bool, ◌&&◌, ◌||◌, ℤ, pos, neg_ℤ, ◌==◌, int_le, nat_le, unsigned_abs}
+use Rattle.std.specs.Prelude.{◌≡◌, ℕ, ◌≤◌, Bool, true, false, ◌&&◌, ◌||◌, ◌⊎◌, List, ℤ, pos, neg_ℤ, ◌==◌, int_le, nat_le, unsigned_abs}
 use Rattle.rules.specs.declared.facts.Facts.{Facts}
+use Rattle.rules.specs.declared.kind.Kind.{Kind}
+use Rattle.rules.specs.declared.refusal.Refusal.{Refusal}
+use Rattle.rules.specs.declared.refusal.Refusal.TheVariants.{OutOfRange, NotCovered}
 use Rattle.rules.specs.Calendar.{month_of, first_month, last_month}
+use Rattle.rules.specs.Kinds.{one_of}
 
 -- from lo to hi, both included
 abbrev pub within : (lo hi n : ℕ) → Bool
@@ -46,6 +50,22 @@ pub record Sizes (f : Facts) : Type 0 where
   pub capacity : f.capacity ≤ 4_000_000
   pub x : unsigned_abs f.x ≤ 4_000_000
   pub y : unsigned_abs f.y ≤ 4_000_000
+
+-- the facts are of this service and of one of these kinds
+abbrev pub named_by : (service : ℕ) → List Kind → Facts → Bool
+named_by service kinds f = f.service == service && one_of kinds f.kind
+
+-- what holds of facts that a service may answer by its column
+pub record Passes (service : ℕ) (kinds : List Kind) (f : Facts) : Type 0 where
+  pub named : named_by service kinds f ≡ true
+  pub ranged : in_range f ≡ true
+  pub sizes : Sizes f
+
+-- why it may not: refusal 5 where they are of another service or kind, then refusal 4 out of range
+abbrev pub Refuses : (service : ℕ) → List Kind → Facts → Refusal → Type 0
+Refuses service kinds f e =
+    ((named_by service kinds f ≡ false) × (e ≡ NotCovered))
+    ⊎ ((named_by service kinds f ≡ true) × (in_range f ≡ false) × (e ≡ OutOfRange))
 
 -- January, July, August and December
 abbrev pub peak : Facts → Bool

@@ -1,5 +1,5 @@
 -- The nine services: whom each names, what fits it, the account, the amount. Assumes nothing.
-use Rattle.std.specs.Prelude.{ℕ, ◌+◌, ◌-◌, ◌*◌, min, Bool, cond, ◌&&◌, List, [], ◌∷◌, pos, Ok, Err, ◌==◌, int_lt, nat_le, nat_lt, slice_index, unsigned_abs}
+use Rattle.std.specs.Prelude.{ℕ, ◌+◌, ◌-◌, ◌*◌, min, Bool, cond, ◌&&◌, List, [], ◌∷◌, pos, Ok, Err, int_lt, nat_le, nat_lt, slice_index, unsigned_abs}
 use Rattle.rules.specs.declared.account.Account.{Account}
 use Rattle.rules.specs.declared.account.Account.TheVariants.{Charges, First, Second, Third}
 use Rattle.rules.specs.declared.facts.Facts.{Facts}
@@ -8,8 +8,8 @@ use Rattle.rules.specs.declared.kind.Kind.TheVariants.{Coal, Gas, Hydro, Storage
 use Rattle.rules.specs.declared.refusal.Refusal.TheVariants.{OutOfRange, NotCovered, OverCeiling}
 use Rattle.rules.specs.Answers.{Answer}
 use Rattle.rules.specs.Division.{quotient}
-use Rattle.rules.specs.Kinds.{is, one_of, plants}
-use Rattle.rules.specs.Ranges.{between, minus, unused, not_negative, in_range}
+use Rattle.rules.specs.Kinds.{is, plants}
+use Rattle.rules.specs.Ranges.{between, minus, unused, not_negative, named_by, in_range}
 
 -- a service: its number, the kinds it names, the facts of its column, and where it enters how much
 pub record Service : Type 0 where
@@ -21,7 +21,7 @@ pub record Service : Type 0 where
 
 -- the service and the kind are those that the rule names
 abbrev pub named : Service → Facts → Bool
-named s f = f.service == s.number && one_of s.kinds f.kind
+named s f = named_by s.number s.kinds f
 
 -- an amount on an account, or refusal 6 above the ceiling of 1,000,000,000 fen
 abbrev pub up_to_ceiling : Account → ℕ → Answer

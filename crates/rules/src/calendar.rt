@@ -10,6 +10,7 @@ pub const LAST_MONTH: u32 = 25_199;
 
 const DAYS: [u32; 12] = [31, 28, 31, 30, 31, 30, 31, 31, 30, 31, 30, 31];
 
+#[tactic(auto, unfolding(crate::specs::Calendar::days))]
 pub fn days_in(count: u32) -> u32
     ensures days { result ≡ days count }
     ensures most { result ≤ 31 }
@@ -33,7 +34,7 @@ pub fn slots_in(count: u32) -> u32
 pub fn month_count(year: u32, month: u32) -> Result<u32, Refusal>
     ensures { result ≡ counted year month }
 {
-    if 2000 <= year && year <= 2099 && 1 <= month && month <= 12 {
+    if (2000..=2099).contains(&year) && (1..=12).contains(&month) {
         Ok(year * 12 + month - 1)
     } else {
         Err(Refusal::OutOfRange)

@@ -1,5 +1,5 @@
 // The two rulebooks, put together from services and layers. The meaning of each is its table, service by service.
-ghost use Rattle.std.specs.Prelude.{◌≡◌, ◌≤◌, true, ◌||◌, ◌==◌};
+ghost use Rattle.std.specs.Prelude.{◌≡◌};
 ghost use Rattle.rules.specs.Rulebooks.{table, rulebook_1, rulebook_2};
 ghost use Rattle.rules.specs.Bounds.{table_bounded};
 
@@ -41,17 +41,15 @@ pub type Payments<R> = Chapters<
     >,
 >;
 
-fn payments<R>(rate: u32, factor: u32, rest: R) -> Payments<R>
-    requires rates { (1 ≤ rate) × (rate ≤ 100) }
-    requires factors { (factor == 10 || factor == 12) ≡ true }
-    ensures rate { result.first.rate ≡ rate }
-    ensures factor { result.second.first.factor ≡ factor }
+fn payments<R>(regulation: AgcRegulation, shaving: DeepShaving, rest: R) -> Payments<R>
+    ensures regulation { result.first ≡ regulation }
+    ensures shaving { result.second.first ≡ shaving }
     ensures rest { result.second.second.second.second.second.second.second ≡ rest }
 {
     Chapters {
-        first: AgcRegulation::at(rate),
+        first: regulation,
         second: Chapters {
-            first: DeepShaving::at(factor),
+            first: shaving,
             second: Chapters {
                 first: SpinningReserve,
                 second: Chapters {
@@ -72,6 +70,7 @@ fn payments<R>(rate: u32, factor: u32, rest: R) -> Payments<R>
     }
 }
 
+// kept: two types, since one over both needs a trait that gives each its late layers and its table, which is no plainer
 // Rulebook 1: services 1 to 7 at rate 10 and factor 10, then season on service 8, then service 9.
 #[derive(Drop)]
 pub struct Rulebook1 {
@@ -87,7 +86,11 @@ pub fn rulebook_1() -> Rulebook1 {
         second: FixedFee,
     };
     Rulebook1 {
-        chapters: payments(10, 10, charges),
+        chapters: payments(
+            AgcRegulation { rate: 10 },
+            DeepShaving { factor: 10 },
+            charges,
+        ),
     }
 }
 
@@ -99,13 +102,6 @@ impl Rule for Rulebook1 {
     fn ask(&self, facts: &Facts) -> Result<(Account, u32), Refusal> {
         self.chapters.ask(facts)
     }
-}
-
-// What rulebook 1 answers, as one equation over all facts.
-pub fn ask_rulebook_1(facts: &Facts) -> Result<(Account, u32), Refusal>
-    ensures { result ≡ table rulebook_1 facts.now }
-{
-    rulebook_1().ask(facts)
 }
 
 // Rulebook 2: services 1 to 7 at rate 6 and factor 12, then grace on a cap on services 8 and 9.
@@ -123,11 +119,14 @@ pub fn rulebook_2() -> Rulebook2 {
         second: FixedFee,
     };
     let late = Grace {
-        rule: Cap::at(charges, MOST_CHARGED),
+        rule: Cap {
+            rule: charges,
+            limit: MOST_CHARGED,
+        },
         before: GRACE_ENDS,
     };
     Rulebook2 {
-        chapters: payments(6, 12, late),
+        chapters: payments(AgcRegulation { rate: 6 }, DeepShaving { factor: 12 }, late),
     }
 }
 
@@ -139,11 +138,4 @@ impl Rule for Rulebook2 {
     fn ask(&self, facts: &Facts) -> Result<(Account, u32), Refusal> {
         self.chapters.ask(facts)
     }
-}
-
-// What rulebook 2 answers, as one equation over all facts.
-pub fn ask_rulebook_2(facts: &Facts) -> Result<(Account, u32), Refusal>
-    ensures { result ≡ table rulebook_2 facts.now }
-{
-    rulebook_2().ask(facts)
 }

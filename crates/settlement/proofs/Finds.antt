@@ -1,12 +1,25 @@
 -- A search by number in lent lines, and what the lines it stands for say of the number. Assumes nothing.
-use Rattle.std.proofs.Common.{◌≡◌, ℕ, zero, suc, ◌+◌, ◌≤◌, min, Bool, true, false, cond, ◌||◌, eqb, ltb, List, [], ◌∷◌, ◌++◌, map, take, drop, Some, None, Option, sym, refl, ap, ◌∙◌, subst, arith}
+use Rattle.std.proofs.Common.{◌≡◌, ℕ, zero, suc, ◌+◌, ◌≤◌, min, Bool, true, false, cond, ◌||◌, is_some, eqb, ltb, List, [], ◌∷◌, ◌++◌, map, take, drop, set, Some, None, Ok, Err, Option, Result, sym, refl, ap, ◌∙◌, subst, arith}
 use Rattle.std.proofs.lemmas.Bool.{eqb-true}
 use Rattle.std.specs.List.{slice_get, insert}
 use Rattle.std.proofs.lemmas.List.{map-append, take-map, drop-map}
+use Rattle.std.specs.Result.{MatchResult}
+use Rattle.register.specs.declared.Register.{Register}
+use Rattle.register.specs.declared.Full.{Full}
+use Rattle.register.specs.Held.{Entered, Insertion}
 use Rattle.register.specs.Numbered.{first_from, place_from}
 use Rattle.settlement.specs.Registers.{has, found, entered, changed}
 use Rattle.settlement.specs.Registers as by
-use Rattle.settlement.specs.Finding.{FoundAt, Absent}
+use Rattle.settlement.specs.Finding.{FoundAt, Absent, LineFound}
+use Rattle.std.specs.Option.{option_map, IfSome}
+use Rattle.billing.specs.declared.party.Party.{Party}
+use Rattle.billing.specs.Lines.{number}
+use Rattle.billing.specs.Lent.{line_of}
+use Rattle.std.specs.Bool.{then_some}
+use Rattle.settlement.specs.declared.objection.Objection.{Objection}
+use Rattle.settlement.specs.Book.{place_of}
+use Rattle.settlement.specs.Objecting.{waits}
+use Rattle.settlement.specs.Objections.{Pending}
 
 some_same : {X : Type 0} (x y : X) → Some x ≡ Some y → x ≡ y
 some_same x y e = cc
@@ -115,6 +128,12 @@ module _ {R S : Type 0} (key : S → ℕ) (f : R → S) where
   pub entered_at : (x : R) (i : ℕ) (rs : List R) → i ≡ place_from (λ r. key (f r)) (key (f x)) 0 rs → map f (insert rs i x) ≡ entered key (f x) (map f rs)
   entered_at x i rs e = map_inserted rs i x ∙ entered_from (f x) 0 i rs (let same : 0 + i ≡ i = omega arith in same ∙ e)
 
+-- a line that was not refused was entered
+pub inserted : {R : Type 0} {limit : ℕ} (P : ℕ → Type 0) (number : R → ℕ) (before after : Register R limit) (line : R) (r : Result ℕ Full) →
+    Insertion number before after line r → MatchResult r P (λ _. ⊥) → (i : ℕ) × Entered number before after line i
+inserted P number before after line (Ok i) ins m = (i, ins)
+inserted P number before after line (Err e) ins m = absurd m
+
 -- the room of a register is never above its limit
 pub min_twice : (a b : ℕ) → min a (min a b) ≡ min a b
 min_twice a b = omega arith
@@ -141,3 +160,26 @@ module _ {R : Type 0} (key : R → ℕ) where
   pub entered_here : (x : R) (i : ℕ) (rs : List R) → i ≡ place_from key (key x) 0 rs → insert rs i x ≡ entered key x rs
   entered_here x i rs e =
       sym (map_same (insert rs i x)) ∙ (entered_at key (λ r. r) x i rs e ∙ ap (entered key x) (map_same rs))
+
+  -- there is a record of the number where the search finds a place
+  pub has_found : (n : ℕ) (rs : List R) (o : Option ℕ) → o ≡ first_from key n 0 rs → is_some o ≡ has key n rs
+  has_found n rs None e = sym (none_here n rs e).missing
+  has_found n rs (Some i) e = sym (found_here n i rs e)
+
+-- an objection that was found is pending if it waits
+pub pending_there : (place : ℕ) (os : List Objection) (i : ℕ) (o : Objection) → FoundAt place_of place os i o → Pending place os (then_some o.waiting i)
+pending_there place os i o at = go o.waiting refl
+  where
+    go : (t : Bool) → o.waiting ≡ t → Pending place os (then_some t i)
+    go false e = ap waits at.first ∙ e
+    go true e = record {
+      waiting = ap waits at.first ∙ e;
+      dismissed = at.change (λ o. record { place = o.place; waiting = false }) ∙ ap (λ n. set os i (record { place = n; waiting = false })) at.named;
+      freed = at.remove;
+    }
+
+-- a line that was looked up, or that there is none
+pub line_looked_up : (n : ℕ) (ps : List Party) (o : Option (ℕ × Party)) → option_map (λ p. p.0) o ≡ first_from (λ p. number (line_of p)) n 0 ps →
+    IfSome o (λ p. Some p.1 ≡ slice_get ps p.0) → LineFound n (map line_of ps) o
+line_looked_up n ps None first line = none_at number line_of n ps first
+line_looked_up n ps (Some at) first line = found_at number line_of n at.0 ps at.1 first line

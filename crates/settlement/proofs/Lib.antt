@@ -1,4 +1,3 @@
 pub mod Finds
-pub mod Readings
 pub mod Postings
 pub mod Renewals

@@ -1,5 +1,5 @@
 -- What the checks of a posting say of its words and of its party's line. Assumes nothing.
-use Rattle.std.proofs.Common.{◌≡◌, ℕ, ◌+◌, ◌≤◌, Bool, true, false, cond, ◌&&◌, ◌||◌, eqb, ltb, leb, List, [], ◌∷◌, ◌++◌, nat_abs, Some, None, Ok, sym, refl, ap, ◌∙◌, subst, arith}
+use Rattle.std.proofs.Common.{◌≡◌, ℕ, ◌+◌, ◌≤◌, Bool, true, false, cond, ◌&&◌, ◌||◌, eqb, ltb, leb, List, [], ◌∷◌, ◌++◌, nat_abs, Some, None, Ok, Err, Option, sym, refl, ap, ◌∙◌, subst, arith}
 use Rattle.std.proofs.lemmas.Bool.{lt-ltb, le-ltb, le-leb, leb-true, leb-false, and_from, and_left, and_right, or_from, or_left, or_right}
 use Rattle.rules.specs.declared.account.Account.{Account}
 use Rattle.rules.specs.declared.account.Account.TheVariants.{Charges, First, Second, Third}
@@ -11,7 +11,7 @@ use Rattle.records.specs.Words.{encodable, event_words}
 use Rattle.billing.specs.Lines.{Line, number, with_sums, credit}
 use Rattle.billing.specs.Bills.{sums_over}
 use Rattle.settlement.specs.Registers.{found}
-use Rattle.settlement.specs.Checks.{Check, first_of}
+use Rattle.settlement.specs.Checks.{Check, first_of, unless}
 use Rattle.settlement.specs.Posting.{unpostable}
 use Rattle.settlement.specs.Admitting.{WordsFor}
 
@@ -109,17 +109,6 @@ first_then (c ∷ cs) ds h = go c.1 (λ u. first_then cs ds u) h
     go true ih u = absurd (let z : ◌≡◌ {A = ℕ} 0 1 = cc in omega arith)
     go false ih u = ih u
 
-pub first_stops : (cs ds : List Check) (x : Refusal) → first_of cs ≡ Some x → first_of (cs ++ ds) ≡ Some x
-first_stops [] ds x h = absurd (let z : ◌≡◌ {A = ℕ} 0 1 = cc in omega arith)
-first_stops (c ∷ cs) ds x h = go c.1 (λ u. first_stops cs ds x u) h
-  where
-    go : (t : Bool) → (first_of cs ≡ Some x → first_of (cs ++ ds) ≡ Some x) → cond t (Some c.0) (first_of cs) ≡ Some x → cond t (Some c.0) (first_of (cs ++ ds)) ≡ Some x
-    go true ih u = u
-    go false ih u = ih u
-
-pub last_holds : (cs : List Check) (x : Refusal) (t : Bool) → first_of cs ≡ None → t ≡ true → first_of (cs ++ ((x, t) ∷ [])) ≡ Some x
-last_holds cs x t h e = first_then cs ((x, t) ∷ []) h ∙ ap (λ u. cond u (Some x) None) e
-
 pub last_clear : (cs : List Check) (x : Refusal) (t : Bool) → first_of cs ≡ None → t ≡ false → first_of (cs ++ ((x, t) ∷ [])) ≡ None
 last_clear cs x t h e = first_then cs ((x, t) ∷ []) h ∙ ap (λ u. cond u (Some x) None) e
 
@@ -129,3 +118,8 @@ credit_held a n l h e =
     let none : None ≡ Some (with_sums (l.sums plus Ok (a, n)) l) = e ∙ ap (λ t. cond t (Some (with_sums (l.sums plus Ok (a, n)) l)) None) (le-leb (account a l.sums + n) 40_000_000_000 h) in
     let z : ◌≡◌ {A = ℕ} 0 1 = cc in
     omega arith
+
+-- what is refused for a reason is refused for the first one
+pub first_reason : (o : Option Refusal) (e : Refusal) → Err e ≡ unless o → o ≡ Some e
+first_reason None e h = absurd (let z : ◌≡◌ {A = ℕ} 0 1 = cc in omega arith)
+first_reason (Some x) e h = let same : x ≡ e = cc in ap Some same

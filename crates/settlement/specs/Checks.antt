@@ -17,6 +17,11 @@ abbrev pub first_of : List Check → Option Refusal
 first_of [] = None
 first_of (c ∷ cs) = cond c.1 (Some c.0) (first_of cs)
 
+-- Nothing is refused, or this is.
+abbrev pub unless : Option Refusal → Result (Unit {0}) Refusal
+unless None = Ok tt
+unless (Some e) = Err e
+
 -- An accepted call: no reason holds, the answer is right, and the book is as the effect says.
 pub record Accepted {A : Type 0} (checks : List Check) (right : A → Type 0) (effect : Book) (answer : A) (after : Book) : Type 0 where
   pub free : first_of checks ≡ None

@@ -1,6 +1,8 @@
 -- What is known of a line that was looked for by its number. Assumes nothing.
-use Rattle.std.specs.Prelude.{◌≡◌, ℕ, min, Bool, true, false, List, length, Some, None, Option, nat_le, slice_set}
+use Rattle.std.specs.Prelude.{◌≡◌, ℕ, min, true, false, List, length, Some, None, Ok, Err, Option, Result, nat_le, slice_set}
 use Rattle.std.specs.List.{remove}
+use Rattle.rules.specs.declared.refusal.Refusal.{Refusal}
+use Rattle.rules.specs.declared.refusal.Refusal.TheVariants.{RosterFull}
 use Rattle.register.specs.declared.Register.{Register}
 use Rattle.register.specs.Held.{room}
 use Rattle.billing.specs.declared.party.Party.{Party}
@@ -36,6 +38,6 @@ pub record NoLine (before after : Register Party 64) : Type 0 where
   pub none : nat_le (min 64 (room before)) (length (lines_of before)) ≡ true
   pub same : after ≡ before
 
-abbrev pub Entering : Party → Register Party 64 → Bool → Register Party 64 → Type 0
-Entering party before true after = EnteredLine party before after
-Entering party before false after = NoLine before after
+abbrev pub Entering : Party → Register Party 64 → Result (Unit {0}) Refusal → Register Party 64 → Type 0
+Entering party before (Ok _) after = EnteredLine party before after
+Entering party before (Err e) after = NoLine before after × (e ≡ RosterFull)

@@ -6,15 +6,13 @@ use Rattle.billing.specs.Lent.{lines_of}
 use Rattle.settlement.specs.Book.{Book, Room}
 use Rattle.settlement.specs.declared.memory.Memory.{Memory}
 use Rattle.settlement.specs.declared.month.Month.{Month}
-use Rattle.settlement.specs.declared.month.OpenMonth.{OpenMonth}
-use Rattle.settlement.specs.declared.month.PublishedMonth.{PublishedMonth}
 
 -- the room that the memory has, and a sheet of so many rows
 abbrev pub room_of : (rows : ℕ) → Memory → Room
 room_of rows m = record { journal = length m.words.now; roster = room m.roster; objecting = room m.objections; sheet = rows }
 
--- the book of a month over the memory
-abbrev pub book_of : Month → Memory → Book
+-- the book of a month over the memory, in either state
+abbrev pub book_of : {S : Type 0} → Month S → Memory → Book
 book_of month m = record {
   month = month.count;
   used = month.used;
@@ -23,13 +21,6 @@ book_of month m = record {
   objections = held m.objections;
   fund = month.fund;
 }
-
--- the book of an open month, and of a published one
-abbrev pub opened : OpenMonth → Memory → Book
-opened m memory = book_of m.month memory
-
-abbrev pub closing : PublishedMonth → Memory → Book
-closing m memory = book_of m.month memory
 
 -- The same memory is lent, and what no book uses is as it was: words past the used ones, lines past those in use.
 pub record Beyond (used : ℕ) (before after : Memory) : Type 0 where

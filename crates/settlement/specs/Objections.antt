@@ -2,6 +2,7 @@
 use Rattle.std.specs.Prelude.{◌≡◌, ℕ, min, Bool, true, false, List, length, Some, None, Ok, Err, Option, Result, nat_le, slice_set}
 use Rattle.std.specs.List.{remove}
 use Rattle.rules.specs.declared.refusal.Refusal.{Refusal}
+use Rattle.rules.specs.declared.refusal.Refusal.TheVariants.{ObjectionsFull}
 use Rattle.register.specs.declared.Register.{Register}
 use Rattle.register.specs.Held.{held, room, LaidBy}
 use Rattle.settlement.specs.declared.objection.Objection.{Objection}
@@ -19,9 +20,9 @@ pub record NoRoom (before after : Register Objection 16) : Type 0 where
   pub none : nat_le (min 16 (room before)) (length (held before)) ≡ true
   pub same : after ≡ before
 
-abbrev pub Lodging : ℕ → Register Objection 16 → Bool → Register Objection 16 → Type 0
-Lodging place before true after = Lodged place before after
-Lodging place before false after = NoRoom before after
+abbrev pub Lodging : ℕ → Register Objection 16 → Result (Unit {0}) Refusal → Register Objection 16 → Type 0
+Lodging place before (Ok _) after = Lodged place before after
+Lodging place before (Err e) after = NoRoom before after × (e ≡ ObjectionsFull)
 
 -- The objection to the event at the place waits; it stands at i.
 pub record WaitsAt (place : ℕ) (os : List Objection) (i : ℕ) : Type 0 where

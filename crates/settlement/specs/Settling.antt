@@ -1,5 +1,6 @@
 -- Settling the published month. Assumes nothing.
-use Rattle.std.specs.Prelude.{◌≡◌, ℕ, ◌+◌, Bool, false, ◌||◌, List, [], ◌∷◌, ◌++◌, map, length, Ok, Err, Result, nat_le, nat_lt}
+use Rattle.std.specs.Prelude.{◌≡◌, ℕ, ◌+◌, Bool, ◌||◌, List, [], ◌∷◌, ◌++◌, map, length, Ok, Err, Result, nat_le, nat_lt}
+use Rattle.std.specs.List.{list_any}
 use Rattle.rules.specs.declared.refusal.Refusal.{Refusal}
 use Rattle.rules.specs.declared.refusal.Refusal.TheVariants.{JournalFull, Unanswered, CalendarEnd, SheetShort, NoWeight, OutOfStep}
 use Rattle.rules.specs.Calendar.{last_month}
@@ -13,8 +14,7 @@ use Rattle.settlement.specs.Checks.{Check, ◌when◌, Accepted, Refused, cut_sh
 
 -- An objection waits for its answer.
 abbrev pub any_waiting : List Objection → Bool
-any_waiting [] = false
-any_waiting (o ∷ os) = o.waiting || any_waiting os
+any_waiting os = list_any (λ o. o.waiting) os
 
 -- Reasons against settling, in the order in which they are looked for.
 abbrev pub settle_checks : Room → Book → List Check

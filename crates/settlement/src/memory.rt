@@ -12,6 +12,7 @@ pub type Objections<'a> = Register<'a, Objection, 16>;
 #[derive(Drop)]
 pub struct Memory<'a> {
     // the journal
+    // kept: lent memory, of which the month says how many words are used
     pub words: &'a mut [u32],
     pub roster: Roster<'a>,
     pub objections: Objections<'a>,

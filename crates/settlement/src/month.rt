@@ -1,4 +1,4 @@
-// The two states of a month: plain numbers, which no one else makes and no one copies.
+// A month in its two states: plain numbers, which no one else makes and no one copies.
 ghost use Rattle.std.specs.Prelude.{◌≤◌};
 
 mod admitting;
@@ -6,6 +6,7 @@ mod answering;
 mod asking;
 mod beginning;
 mod enrolling;
+mod journal;
 mod objecting;
 mod paying;
 mod posting;
@@ -15,23 +16,24 @@ mod settling;
 mod standing;
 mod what_if;
 
-// What both states have: the month's count, how many words of the journal are used, and the commissioning fund.
+use std::marker::PhantomData;
+
+// Parties, readings, events and money are entered.
+pub struct Open;
+
+// Objections are heard, until the month is settled.
+pub struct Published;
+
+// The month's count, how many words of the journal are used, and the commissioning fund.
 #[derive(Drop)]
-struct Month {
+pub struct Month<S> {
     count: u32,
     used: usize,
     fund: u64,
+    state: PhantomData<S>,
     ghost limits: { (24_000 ≤ count) × (count ≤ 25_199) × (used ≤ 1_048_576) × (fund ≤ 40_000_000_000) },
 }
 
-// A month that parties, readings, events and money are entered in.
-#[derive(Drop)]
-pub struct OpenMonth {
-    month: Month,
-}
+pub type OpenMonth = Month<Open>;
 
-// A month that objections are heard in, until it is settled.
-#[derive(Drop)]
-pub struct PublishedMonth {
-    month: Month,
-}
+pub type PublishedMonth = Month<Published>;

@@ -1,10 +1,11 @@
 // An objection, by the place of the event that it objects to.
 use register::Keyed;
 
-#[derive(Clone, Copy)]
+#[derive(Clone, Copy, Debug, PartialEq, Eq)]
 pub struct Objection {
     pub place: u32,
     // it waits for its answer; a dismissed one does not
+    // kept: a yes or no of its own, with no value that only one of the two has
     pub waiting: bool,
 }
 

@@ -9,19 +9,18 @@ ghost use Rattle.settlement.specs.Objections.{Lodging, Pending};
 use crate::memory::Objections;
 use crate::objection::Objection;
 use register::Keyed;
+use rules::refusal::Refusal;
 
 // There is an objection to the event, open or dismissed.
 pub(crate) fn is_objected(objections: &Objections, place: u32) -> bool
     ensures { result ≡ has place_of place (held objections.now) }
 {
-    match objections.find(place) {
-        Some(_) => true,
-        None => false,
-    }
+    objections.find(place).is_some()
 }
 
 // Enters a waiting objection in its place, where a line is left.
-pub(crate) fn lodge(objections: &mut Objections, place: u32) -> bool
+// kept: a twin of `enter`: what they promise is said of lines there and of objections here
+pub(crate) fn lodge(objections: &mut Objections, place: u32) -> Result<(), Refusal>
     ensures lodges { Lodging place objections.old result objections.new }
     ensures kept { Kept objections.old objections.new }
 {
@@ -29,23 +28,18 @@ pub(crate) fn lodge(objections: &mut Objections, place: u32) -> bool
         place,
         waiting: true,
     };
-    match objections.insert(objection) {
-        Ok(_) => true,
-        Err(_) => false,
-    }
+    objections
+        .insert(objection)
+        .map_err(|_| Refusal::ObjectionsFull)?;
+    Ok(())
 }
 
 // Where the waiting objection to the event stands.
 pub(crate) fn pending(objections: &Objections, place: u32) -> Option<usize>
     ensures { Pending place (held objections.now) result }
 {
-    match objections.find(place) {
-        Some(i) => match objections.get(i) {
-            Some(objection) => { if objection.waiting { Some(i) } else { None } }
-            None => None,
-        },
-        None => None,
-    }
+    let (i, objection) = objections.lookup(place)?;
+    objection.waiting.then_some(i)
 }
 
 // Keeps the line, which waits no more.

@@ -1,7 +1,7 @@
 // What posting an event answers.
 use rules::account::Account;
 
-#[derive(Clone, Copy)]
+#[derive(Clone, Copy, Debug, PartialEq, Eq)]
 pub struct Posted {
     // where the event stands in the journal
     pub place: u32,

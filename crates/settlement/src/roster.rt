@@ -6,29 +6,23 @@ ghost use Rattle.settlement.specs.Finding.{LineFound, Entering};
 
 use billing::party::{Party, Roster};
 use register::Keyed;
+use rules::refusal::Refusal;
 
 // Where the party stands, and its line.
 pub(crate) fn line_of(roster: &Roster, number: u32) -> Option<(usize, Party)>
     ensures { LineFound number (lines_of roster.now) result }
 {
-    match roster.find(number) {
-        Some(i) => match roster.get(i) {
-            Some(party) => Some((i, party)),
-            None => None,
-        },
-        None => None,
-    }
+    roster.lookup(number)
 }
 
 // Enters a new line in its place, where one is left.
-pub(crate) fn enter(roster: &mut Roster, party: Party) -> bool
+// kept: a twin of `lodge`: what they promise is said of lines here and of objections there
+pub(crate) fn enter(roster: &mut Roster, party: Party) -> Result<(), Refusal>
     ensures enters { Entering party roster.old result roster.new }
     ensures kept { Kept roster.old roster.new }
 {
-    match roster.insert(party) {
-        Ok(_) => true,
-        Err(_) => false,
-    }
+    roster.insert(party).map_err(|_| Refusal::RosterFull)?;
+    Ok(())
 }
 
 // Puts a changed line back.

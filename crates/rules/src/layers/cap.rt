@@ -1,8 +1,8 @@
 // Cap: no amount is above a limit.
-ghost use Rattle.std.specs.Prelude.{◌≡◌, ◌≤◌, Ok, Err};
+ghost use Rattle.std.specs.Prelude.{◌≡◌, ◌≤◌, MatchResult};
 ghost use Rattle.rules.specs.declared.refusal.Refusal.TheVariants.{OutOfRange};
 ghost use Rattle.rules.specs.Layers.{capped};
-ghost use Rattle.std.proofs.Common.{rules};
+ghost use Rattle.rules.specs.Bounds.{capped_bounded};
 
 use crate::account::Account;
 use crate::facts::Facts;
@@ -13,34 +13,26 @@ use crate::rule::Rule;
 #[derive(Drop)]
 pub struct Cap<R> {
     pub rule: R,
-    limit: u32,
+    pub(crate) limit: u32,
     ghost limits: { (1 ≤ limit) × (limit ≤ 1_000_000_000) },
 }
 
 impl<R: Drop> Cap<R> {
     // A limit outside 1 to 1,000,000,000 is refused with 4.
     pub fn new(rule: R, limit: u32) -> Result<Cap<R>, Refusal>
-        ensures { elim result [ Ok a ↦ (a.rule ≡ rule) × (a.limit ≡ limit) | Err e ↦ (e ≡ OutOfRange) × ((1 ≤ limit) × (limit ≤ 1_000_000_000) → ⊥) ] }
+        ensures { MatchResult result (λ layer. (layer.rule ≡ rule) × (layer.limit ≡ limit)) (λ e. (e ≡ OutOfRange) × ¬ ((1 ≤ limit) × (limit ≤ 1_000_000_000))) }
     {
-        if 1 <= limit && limit <= 1_000_000_000 {
-            Ok(Cap::at(rule, limit))
-        } else {
-            Err(Refusal::OutOfRange)
+        if !(1..=1_000_000_000).contains(&limit) {
+            return Err(Refusal::OutOfRange);
         }
-    }
-
-    pub(crate) fn at(rule: R, limit: u32) -> Cap<R>
-        requires { (1 ≤ limit) × (limit ≤ 1_000_000_000) }
-        ensures { (result.rule ≡ rule) × (result.limit ≡ limit) }
-    {
-        Cap { rule, limit }
+        Ok(Cap { rule, limit })
     }
 }
 
 impl<R: Rule> Rule for Cap<R> {
     ghost meaning = { λ layer facts. capped layer.limit (R.meaning layer.rule facts) };
 
-    ghost bounded = { Prim.search rules };
+    ghost bounded = { λ layer facts. capped_bounded _ _ (R.bounded layer.rule facts) };
 
     fn ask(&self, facts: &Facts) -> Result<(Account, u32), Refusal> {
         let (account, amount) = self.rule.ask(facts)?;

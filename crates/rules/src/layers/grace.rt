@@ -1,6 +1,6 @@
 // Grace: nothing is charged before a month.
 ghost use Rattle.rules.specs.Layers.{grace};
-ghost use Rattle.std.proofs.Common.{rules};
+ghost use Rattle.rules.specs.Bounds.{grace_bounded};
 
 use crate::account::Account;
 use crate::facts::Facts;
@@ -17,7 +17,7 @@ pub struct Grace<R> {
 impl<R: Rule> Rule for Grace<R> {
     ghost meaning = { λ layer facts. grace layer.before facts (R.meaning layer.rule facts) };
 
-    ghost bounded = { Prim.search rules };
+    ghost bounded = { λ layer facts. grace_bounded layer.before facts _ (R.bounded layer.rule facts) };
 
     fn ask(&self, facts: &Facts) -> Result<(Account, u32), Refusal> {
         let (account, amount) = self.rule.ask(facts)?;

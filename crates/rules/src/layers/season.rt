@@ -1,6 +1,6 @@
 // Season: charges are five times as much in the months of peak load.
 ghost use Rattle.rules.specs.Layers.{season};
-ghost use Rattle.std.proofs.Common.{rules};
+ghost use Rattle.rules.specs.Bounds.{season_bounded};
 
 use crate::account::Account;
 use crate::ceiling::up_to_ceiling;
@@ -16,7 +16,7 @@ pub struct Season<R> {
 impl<R: Rule> Rule for Season<R> {
     ghost meaning = { λ layer facts. season facts (R.meaning layer.rule facts) };
 
-    ghost bounded = { Prim.search rules };
+    ghost bounded = { λ layer facts. season_bounded facts _ (R.bounded layer.rule facts) };
 
     fn ask(&self, facts: &Facts) -> Result<(Account, u32), Refusal> {
         let (account, amount) = self.rule.ask(facts)?;

@@ -1,5 +1,5 @@
 // Service 1: regulation by automatic generation control.
-ghost use Rattle.std.specs.Prelude.{◌≡◌, ◌*◌, ◌≤◌, Ok, Err};
+ghost use Rattle.std.specs.Prelude.{◌≡◌, ◌*◌, ◌≤◌, MatchResult};
 ghost use Rattle.rules.specs.declared.refusal.Refusal.TheVariants.{OutOfRange};
 ghost use Rattle.rules.specs.Division.{quotient};
 ghost use Rattle.rules.specs.Services.{answer, agc_regulation};
@@ -14,29 +14,21 @@ use crate::refusal::Refusal;
 use crate::rule::Rule;
 
 // The rate is 1 to 100 yuan per MW.
-#[derive(Clone, Copy)]
+#[derive(Clone, Copy, Debug, PartialEq, Eq)]
 pub struct AgcRegulation {
-    rate: u32,
+    pub(crate) rate: u32,
     ghost limits: { (1 ≤ rate) × (rate ≤ 100) },
 }
 
 impl AgcRegulation {
     // A rate outside 1 to 100 is refused with 4.
     pub fn new(rate: u32) -> Result<AgcRegulation, Refusal>
-        ensures { elim result [ Ok a ↦ a.rate ≡ rate | Err e ↦ (e ≡ OutOfRange) × ((1 ≤ rate) × (rate ≤ 100) → ⊥) ] }
+        ensures { MatchResult result (λ rule. rule.rate ≡ rate) (λ e. (e ≡ OutOfRange) × ¬ ((1 ≤ rate) × (rate ≤ 100))) }
     {
-        if 1 <= rate && rate <= 100 {
-            Ok(AgcRegulation::at(rate))
-        } else {
-            Err(Refusal::OutOfRange)
+        if !(1..=100).contains(&rate) {
+            return Err(Refusal::OutOfRange);
         }
-    }
-
-    pub(crate) fn at(rate: u32) -> AgcRegulation
-        requires { (1 ≤ rate) × (rate ≤ 100) }
-        ensures { result.rate ≡ rate }
-    {
-        AgcRegulation { rate }
+        Ok(AgcRegulation { rate })
     }
 
     fn amount(&self, x: u32, y: u32) -> u64
@@ -54,12 +46,7 @@ impl Rule for AgcRegulation {
     ghost bounded = { λ rule facts. answer_bounded (agc_regulation rule.rate) facts };
 
     fn ask(&self, facts: &Facts) -> Result<(Account, u32), Refusal> {
-        if !facts.named_by(1, &PLANTS) {
-            return Err(Refusal::NotCovered);
-        }
-        if !facts.in_range() {
-            return Err(Refusal::OutOfRange);
-        }
+        facts.check(1, &PLANTS)?;
         let x = facts.x.unsigned_abs();
         let y = facts.y.unsigned_abs();
         match facts.y {

@@ -1,5 +1,5 @@
 // Service 2: deep shaving of coal units, paid by how far the output lies below half the capacity.
-ghost use Rattle.std.specs.Prelude.{◌≡◌, ◌*◌, ◌≤◌, true, ◌||◌, Ok, Err, ◌==◌, ◌≢◌};
+ghost use Rattle.std.specs.Prelude.{◌≡◌, ◌*◌, ◌≤◌, true, ◌||◌, MatchResult, ◌==◌, ◌≢◌};
 ghost use Rattle.rules.specs.declared.refusal.Refusal.TheVariants.{OutOfRange};
 ghost use Rattle.rules.specs.Division.{quotient};
 ghost use Rattle.rules.specs.Services.{answer, deep_shaving, bands, price_in};
@@ -21,38 +21,28 @@ const LOWEST_BAND_PRICE: u16 = 700;
 fn price(capacity: u32, output: u32) -> u16
     ensures { result ≡ price_in bands capacity output }
 {
-    for (percent, price) in BANDS {
-        if capacity as u64 * percent as u64 <= output as u64 * 100 {
-            return price;
-        }
-    }
-    LOWEST_BAND_PRICE
+    BANDS
+        .iter()
+        .find(|(percent, _)| capacity as u64 * *percent as u64 <= output as u64 * 100)
+        .map_or(LOWEST_BAND_PRICE, |(_, price)| *price)
 }
 
 // The factor is 10 or 12 tenths.
-#[derive(Clone, Copy)]
+#[derive(Clone, Copy, Debug, PartialEq, Eq)]
 pub struct DeepShaving {
-    factor: u32,
+    pub(crate) factor: u32,
     ghost limits: { (factor == 10 || factor == 12) ≡ true },
 }
 
 impl DeepShaving {
     // A factor other than 10 or 12 is refused with 4.
     pub fn new(factor: u32) -> Result<DeepShaving, Refusal>
-        ensures { elim result [ Ok a ↦ a.factor ≡ factor | Err e ↦ (e ≡ OutOfRange) × ((factor == 10 || factor == 12) ≢ true) ] }
+        ensures { MatchResult result (λ rule. rule.factor ≡ factor) (λ e. (e ≡ OutOfRange) × ((factor == 10 || factor == 12) ≢ true)) }
     {
-        if factor == 10 || factor == 12 {
-            Ok(DeepShaving::at(factor))
-        } else {
-            Err(Refusal::OutOfRange)
+        if !matches!(factor, 10 | 12) {
+            return Err(Refusal::OutOfRange);
         }
-    }
-
-    pub(crate) fn at(factor: u32) -> DeepShaving
-        requires { (factor == 10 || factor == 12) ≡ true }
-        ensures { result.factor ≡ factor }
-    {
-        DeepShaving { factor }
+        Ok(DeepShaving { factor })
     }
 
     fn amount(&self, shaved: u32, price: u16) -> u64
@@ -69,10 +59,8 @@ impl Rule for DeepShaving {
     ghost bounded = { λ rule facts. answer_bounded (deep_shaving rule.factor) facts };
 
     fn ask(&self, facts: &Facts) -> Result<(Account, u32), Refusal> {
-        if !facts.named_by(2, &[Kind::Coal]) {
-            return Err(Refusal::NotCovered);
-        }
-        if !facts.in_range() || facts.x < 0 || facts.y != 0 {
+        facts.check(2, &[Kind::Coal])?;
+        if facts.x < 0 || facts.y != 0 {
             return Err(Refusal::OutOfRange);
         }
         let output = facts.x as u32;

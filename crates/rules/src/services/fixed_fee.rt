@@ -16,7 +16,7 @@ const FEES: [u32; 8] = [
 
 const FEN_A_YUAN: u64 = 100;
 
-#[derive(Clone, Copy)]
+#[derive(Clone, Copy, Debug, PartialEq, Eq)]
 pub struct FixedFee;
 
 impl Rule for FixedFee {
@@ -25,10 +25,8 @@ impl Rule for FixedFee {
     ghost bounded = { λ rule facts. answer_bounded fixed_fee facts };
 
     fn ask(&self, facts: &Facts) -> Result<(Account, u32), Refusal> {
-        if !facts.named_by(9, &PLANTS) {
-            return Err(Refusal::NotCovered);
-        }
-        if !facts.in_range() || facts.x < 1 || facts.x > 8 || facts.y != 0 {
+        facts.check(9, &PLANTS)?;
+        if !(1..=8).contains(&facts.x) || facts.y != 0 {
             return Err(Refusal::OutOfRange);
         }
         up_to_ceiling(

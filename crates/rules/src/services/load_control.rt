@@ -9,7 +9,7 @@ use crate::kind::Kind;
 use crate::refusal::Refusal;
 use crate::rule::Rule;
 
-#[derive(Clone, Copy)]
+#[derive(Clone, Copy, Debug, PartialEq, Eq)]
 pub struct LoadControl;
 
 impl Rule for LoadControl {
@@ -18,10 +18,8 @@ impl Rule for LoadControl {
     ghost bounded = { λ rule facts. answer_bounded load_control facts };
 
     fn ask(&self, facts: &Facts) -> Result<(Account, u32), Refusal> {
-        if !facts.named_by(6, &[Kind::Market]) {
-            return Err(Refusal::NotCovered);
-        }
-        if !facts.in_range() || facts.x < 0 || facts.y < 0 || facts.y > 1 {
+        facts.check(6, &[Kind::Market])?;
+        if facts.x < 0 || !(0..=1).contains(&facts.y) {
             return Err(Refusal::OutOfRange);
         }
         up_to_ceiling(Account::Second, facts.x as u64 * facts.y as u64)

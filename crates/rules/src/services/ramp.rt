@@ -10,7 +10,7 @@ use crate::kind::PLANTS;
 use crate::refusal::Refusal;
 use crate::rule::Rule;
 
-#[derive(Clone, Copy)]
+#[derive(Clone, Copy, Debug, PartialEq, Eq)]
 pub struct Ramp;
 
 impl Rule for Ramp {
@@ -19,10 +19,8 @@ impl Rule for Ramp {
     ghost bounded = { λ rule facts. answer_bounded ramp facts };
 
     fn ask(&self, facts: &Facts) -> Result<(Account, u32), Refusal> {
-        if !facts.named_by(5, &PLANTS) {
-            return Err(Refusal::NotCovered);
-        }
-        if !facts.in_range() || facts.x < 0 || facts.y < 0 || facts.y > 1 {
+        facts.check(5, &PLANTS)?;
+        if facts.x < 0 || !(0..=1).contains(&facts.y) {
             return Err(Refusal::OutOfRange);
         }
         let power = facts.x as u64;

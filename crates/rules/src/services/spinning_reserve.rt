@@ -13,7 +13,7 @@ use crate::kind::Kind;
 use crate::refusal::Refusal;
 use crate::rule::Rule;
 
-#[derive(Clone, Copy)]
+#[derive(Clone, Copy, Debug, PartialEq, Eq)]
 pub struct SpinningReserve;
 
 // The price of coal, and that of hydro.
@@ -32,10 +32,8 @@ impl Rule for SpinningReserve {
     ghost bounded = { λ rule facts. answer_bounded spinning_reserve facts };
 
     fn ask(&self, facts: &Facts) -> Result<(Account, u32), Refusal> {
-        if !facts.named_by(3, &[Kind::Coal, Kind::Hydro]) {
-            return Err(Refusal::NotCovered);
-        }
-        if !facts.in_range() || !facts.up_to_capacity(facts.x) || !facts.up_to_capacity(facts.y) {
+        facts.check(3, &[Kind::Coal, Kind::Hydro])?;
+        if !facts.up_to_capacity(facts.x) || !facts.up_to_capacity(facts.y) {
             return Err(Refusal::OutOfRange);
         }
         let declared = facts.x.unsigned_abs();

@@ -12,7 +12,7 @@ use crate::kind::Kind;
 use crate::refusal::Refusal;
 use crate::rule::Rule;
 
-#[derive(Clone, Copy)]
+#[derive(Clone, Copy, Debug, PartialEq, Eq)]
 pub struct StartStop;
 
 // Fen a kW: gas, coal to 100,000 kW, larger coal.
@@ -32,10 +32,8 @@ impl Rule for StartStop {
     ghost bounded = { λ rule facts. answer_bounded start_stop facts };
 
     fn ask(&self, facts: &Facts) -> Result<(Account, u32), Refusal> {
-        if !facts.named_by(4, &[Kind::Coal, Kind::Gas]) {
-            return Err(Refusal::NotCovered);
-        }
-        if !facts.in_range() || facts.x != 0 || facts.y != 0 {
+        facts.check(4, &[Kind::Coal, Kind::Gas])?;
+        if facts.x != 0 || facts.y != 0 {
             return Err(Refusal::OutOfRange);
         }
         let price = price(facts.kind, facts.capacity);

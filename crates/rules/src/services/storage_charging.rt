@@ -9,7 +9,7 @@ use crate::kind::Kind;
 use crate::refusal::Refusal;
 use crate::rule::Rule;
 
-#[derive(Clone, Copy)]
+#[derive(Clone, Copy, Debug, PartialEq, Eq)]
 pub struct StorageCharging;
 
 impl Rule for StorageCharging {
@@ -18,10 +18,8 @@ impl Rule for StorageCharging {
     ghost bounded = { λ rule facts. answer_bounded storage_charging facts };
 
     fn ask(&self, facts: &Facts) -> Result<(Account, u32), Refusal> {
-        if !facts.named_by(7, &[Kind::Storage]) {
-            return Err(Refusal::NotCovered);
-        }
-        if !facts.in_range() || facts.x < 0 || facts.y != 0 {
+        facts.check(7, &[Kind::Storage])?;
+        if facts.x < 0 || facts.y != 0 {
             return Err(Refusal::OutOfRange);
         }
         up_to_ceiling(Account::First, facts.x as u64 * 30)

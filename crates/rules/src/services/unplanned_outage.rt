@@ -13,7 +13,7 @@ use crate::rule::Rule;
 // Two days: no minute beyond them counts.
 const MOST_MINUTES: u32 = 2_880;
 
-#[derive(Clone, Copy)]
+#[derive(Clone, Copy, Debug, PartialEq, Eq)]
 pub struct UnplannedOutage;
 
 impl Rule for UnplannedOutage {
@@ -22,10 +22,8 @@ impl Rule for UnplannedOutage {
     ghost bounded = { λ rule facts. answer_bounded unplanned_outage facts };
 
     fn ask(&self, facts: &Facts) -> Result<(Account, u32), Refusal> {
-        if !facts.named_by(8, &[Kind::Coal, Kind::Gas]) {
-            return Err(Refusal::NotCovered);
-        }
-        if !facts.in_range() || facts.x < 1 || facts.y < 0 || facts.y > 44_640 {
+        facts.check(8, &[Kind::Coal, Kind::Gas])?;
+        if facts.x < 1 || !(0..=44_640).contains(&facts.y) {
             return Err(Refusal::OutOfRange);
         }
         let stopped = facts.x as u32;

@@ -3,13 +3,13 @@ ghost use Rattle.std.specs.Prelude.{◌≤◌};
 ghost use Rattle.settlement.specs.Admitting.{WordsFor, Admitting};
 ghost use Rattle.settlement.specs.Lent.{book_of, room_of};
 
-use super::Month;
+use super::{Month, Open};
 use crate::memory::Memory;
 use crate::roster::line_of;
 use billing::party::Party;
 use billing::sums::{MOST_SUM, account_total};
 use records::event::Event;
-use records::journal::{posted_already, used_words};
+use records::journal::posted_already;
 use rules::account::Account;
 use rules::calendar::slots_in;
 use rules::refusal::Refusal;
@@ -37,7 +37,7 @@ fn words_for(count: u32, event: &Event) -> Option<[u32; 3]>
     event.words()
 }
 
-impl Month {
+impl Month<Open> {
     pub(super) fn admit<P: Rule>(
         &self,
         memory: &Memory,
@@ -46,38 +46,25 @@ impl Month {
     ) -> Result<Admission, Refusal>
         ensures { Admitting (P.meaning rulebook.now) (room_of 0 memory.now) event.now (book_of self.now memory.now) result }
     {
-        let words = &*memory.words;
-        if words.len() < self.used {
-            return Err(Refusal::OutOfStep);
-        }
-        let Some(found) = line_of(&memory.roster, event.party) else {
-            return Err(Refusal::UnknownParty);
-        };
-        let (line, party) = found;
-        let Some(three) = words_for(self.count, event) else {
-            return Err(Refusal::OutOfRange);
-        };
-        if posted_already(used_words(words, self.used), event) {
+        let journal = self.journal(memory)?;
+        let (line, party) = line_of(&memory.roster, event.party).ok_or(Refusal::UnknownParty)?;
+        let words = words_for(self.count, event).ok_or(Refusal::OutOfRange)?;
+        if posted_already(journal, event) {
             return Err(Refusal::PostedAlready);
         }
         let facts = party.enrolled().facts(self.count, event);
-        let (account, amount) = match rulebook.ask(&facts) {
-            Ok(answer) => answer,
-            Err(refusal) => return Err(refusal),
-        };
+        let (account, amount) = rulebook.ask(&facts)?;
         if account_total(&memory.roster, account) + amount as u64 > MOST_SUM {
             return Err(Refusal::AccountFull);
         }
         // the line holds no more than all lines together
-        let Some(party) = party.credited(account, amount) else {
-            return Err(Refusal::AccountFull);
-        };
+        let party = party.credited(account, amount).ok_or(Refusal::AccountFull)?;
         Ok(Admission {
             line,
             party,
             account,
             amount,
-            words: three,
+            words,
         })
     }
 }

@@ -3,9 +3,9 @@ ghost use Rattle.std.specs.Prelude.{◌≤◌, length};
 ghost use Rattle.settlement.specs.Objecting.{AnswerObjection};
 ghost use Rattle.settlement.specs.Admitting.{Refunding};
 ghost use Rattle.settlement.specs.Objections.{Freed};
-ghost use Rattle.settlement.specs.Lent.{book_of, closing, room_of, Left};
+ghost use Rattle.settlement.specs.Lent.{book_of, room_of, Left};
 
-use super::{Month, PublishedMonth};
+use super::{Month, Published};
 use crate::memory::Memory;
 use crate::objections::{dismiss, free, pending};
 use crate::roster::{line_of, put};
@@ -21,32 +21,21 @@ pub(super) struct Refund {
     party: Party,
 }
 
-impl Month {
+impl Month<Published> {
     // None where no standing event is there, its party is not enrolled, the rulebook refuses it, or the sum is smaller.
     fn refund<P: Rule>(&self, memory: &Memory, rulebook: &P, place: usize) -> Option<Refund>
         ensures { Refunding (P.meaning rulebook.now) place (book_of self.now memory.now) result }
     {
         let words = &*memory.words;
-        let Some(event) = event_at(used_words(words, self.used), place) else {
-            return None;
-        };
-        let Some(found) = line_of(&memory.roster, event.party) else {
-            return None;
-        };
-        let (line, party) = found;
+        let event = event_at(used_words(words, self.used), place)?;
+        let (line, party) = line_of(&memory.roster, event.party)?;
         let facts = party.enrolled().facts(self.count, &event);
-        let Ok(answer) = rulebook.ask(&facts) else {
-            return None;
-        };
-        let (account, amount) = answer;
-        let Some(party) = party.debited(account, amount) else {
-            return None;
-        };
+        let (account, amount) = rulebook.ask(&facts).ok()?;
+        let party = party.debited(account, amount)?;
         Some(Refund { line, party })
     }
-}
 
-impl PublishedMonth {
+    // kept: `upheld` is a yes or no, with no value that only one of the two has
     // Upholding strikes the event, takes its amount off again and frees the objection's line; dismissing keeps the line.
     pub fn answer<P: Rule>(
         &self,
@@ -55,25 +44,21 @@ impl PublishedMonth {
         place: u32,
         upheld: bool,
     ) -> Result<(), Refusal>
-        ensures does { AnswerObjection (P.meaning rulebook.now) (room_of 0 memory.old) place upheld (closing self.now memory.old) result (closing self.now memory.new) }
-        ensures left { Left result self.now.month.used memory.old memory.new }
+        ensures does { AnswerObjection (P.meaning rulebook.now) (room_of 0 memory.old) place upheld (book_of self.now memory.old) result (book_of self.now memory.new) }
+        ensures left { Left result self.now.used memory.old memory.new }
         ensures freed { Freed upheld place result memory.old.objections memory.new.objections }
     {
-        if memory.words.len() < self.month.used {
-            return Err(Refusal::OutOfStep);
-        }
-        let Some(i) = pending(&memory.objections, place) else {
-            return Err(Refusal::NoOpenObjection);
-        };
+        self.journal(memory)?;
+        let i = pending(&memory.objections, place).ok_or(Refusal::NoOpenObjection)?;
         if !upheld {
             dismiss(&mut memory.objections, i, place);
             return Ok(());
         }
-        let Some(refund) = self.month.refund(memory, rulebook, place as usize) else {
-            return Err(Refusal::OutOfStep);
-        };
+        let refund = self
+            .refund(memory, rulebook, place as usize)
+            .ok_or(Refusal::OutOfStep)?;
         put(&mut memory.roster, refund.line, refund.party);
-        strike(memory.words, self.month.used, place as usize);
+        strike(memory.words, self.used, place as usize);
         free(&mut memory.objections, i);
         Ok(())
     }

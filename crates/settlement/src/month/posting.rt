@@ -1,8 +1,8 @@
 // Posting an event.
 ghost use Rattle.settlement.specs.Posting.{Post};
-ghost use Rattle.settlement.specs.Lent.{opened, room_of, Left};
+ghost use Rattle.settlement.specs.Lent.{book_of, room_of, Left};
 
-use super::OpenMonth;
+use super::{Month, Open};
 use crate::memory::Memory;
 use crate::posted::Posted;
 use crate::roster::put;
@@ -11,26 +11,21 @@ use records::journal::append;
 use rules::refusal::Refusal;
 use rules::rule::Rule;
 
-impl OpenMonth {
+impl Month<Open> {
     pub fn post<P: Rule>(
         &mut self,
         memory: &mut Memory,
         rulebook: &P,
         event: &Event,
     ) -> Result<Posted, Refusal>
-        ensures does { Post (P.meaning rulebook.now) (room_of 0 memory.old) event.now (opened self.old memory.old) result (opened self.new memory.new) }
-        ensures left { Left result self.new.month.used memory.old memory.new }
+        ensures does { Post (P.meaning rulebook.now) (room_of 0 memory.old) event.now (book_of self.old memory.old) result (book_of self.new memory.new) }
+        ensures left { Left result self.new.used memory.old memory.new }
     {
-        let admission = match self.month.admit(memory, rulebook, event) {
-            Ok(admission) => admission,
-            Err(refusal) => return Err(refusal),
-        };
-        if !append(memory.words, self.month.used, &admission.words) {
-            return Err(Refusal::JournalFull);
-        }
+        let admission = self.admit(memory, rulebook, event)?;
+        append(memory.words, self.used, &admission.words)?;
         put(&mut memory.roster, admission.line, admission.party);
-        let place = self.month.used as u32;
-        self.month.used += 3;
+        let place = self.used as u32;
+        self.used += 3;
         Ok(Posted {
             place,
             account: admission.account,

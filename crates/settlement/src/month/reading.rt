@@ -1,17 +1,16 @@
 // Taking a reading.
 ghost use Rattle.std.specs.Prelude.{◌≡◌, ◌<◌, ◌≤◌, false, unsigned_abs};
 ghost use Rattle.settlement.specs.Enrolling.{Read, unreadable};
-ghost use Rattle.settlement.specs.Lent.{opened, Left};
+ghost use Rattle.settlement.specs.Lent.{book_of, Left};
 
-use super::OpenMonth;
+use super::{Month, Open};
 use crate::memory::Memory;
 use crate::roster::{line_of, put};
 use billing::reading::Reading;
+use records::enrolment::MOST_FIGURE;
 use rules::calendar::slots_in;
 use rules::kind::Kind;
 use rules::refusal::Refusal;
-
-const MOST_POWER: u32 = 4_000_000;
 
 // A reading that the month or the kind does not allow.
 fn is_unreadable(count: u32, kind: Kind, reading: &Reading) -> bool
@@ -20,26 +19,21 @@ fn is_unreadable(count: u32, kind: Kind, reading: &Reading) -> bool
     ensures size { result ≡ false → unsigned_abs reading.now.power ≤ 4_000_000 }
 {
     reading.slot >= slots_in(count)
-        || reading.power.unsigned_abs() > MOST_POWER
+        || reading.power.unsigned_abs() > MOST_FIGURE
         || (reading.power < 0 && !kind.may_draw())
 }
 
-impl OpenMonth {
+impl Month<Open> {
     pub fn read(&self, memory: &mut Memory, reading: &Reading) -> Result<(), Refusal>
-        ensures does { Read reading.now (opened self.now memory.old) result (opened self.now memory.new) }
-        ensures left { Left result self.now.month.used memory.old memory.new }
+        ensures does { Read reading.now (book_of self.now memory.old) result (book_of self.now memory.new) }
+        ensures left { Left result self.now.used memory.old memory.new }
     {
-        let Some(found) = line_of(&memory.roster, reading.party) else {
-            return Err(Refusal::UnknownParty);
-        };
-        let (i, line) = found;
-        if is_unreadable(self.month.count, line.enrolled().kind, reading) {
+        let (i, line) = line_of(&memory.roster, reading.party).ok_or(Refusal::UnknownParty)?;
+        if is_unreadable(self.count, line.enrolled().kind, reading) {
             return Err(Refusal::OutOfRange);
         }
         // the slot is in the month and the power in its range: only a slot that has passed is refused here
-        let Some(line) = line.with_reading(reading) else {
-            return Err(Refusal::SlotPassed);
-        };
+        let line = line.with_reading(reading).ok_or(Refusal::SlotPassed)?;
         put(&mut memory.roster, i, line);
         Ok(())
     }

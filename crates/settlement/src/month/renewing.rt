@@ -12,6 +12,7 @@ pub(super) fn renew(roster: &mut Roster)
     ensures lines { lines_of roster.new ≡ map renewed (lines_of roster.old) }
     ensures kept { Kept roster.old roster.new }
 {
+    // kept: tried with a register that lends its lines in use by `&mut`: what such a loan of a part leaves was not proved
     for i in 0..roster.count() {
         if let Some(party) = roster.get(i) {
             put(roster, i, party.renewed());

@@ -1,15 +1,15 @@
 // A party's account sums as if one of its events were struck.
 ghost use Rattle.std.specs.Prelude.{◌≡◌};
 ghost use Rattle.settlement.specs.Asking.{WhatIf};
-ghost use Rattle.settlement.specs.Lent.{closing, room_of};
+ghost use Rattle.settlement.specs.Lent.{book_of, room_of};
 
-use super::PublishedMonth;
+use super::{Month, Published};
 use crate::memory::Memory;
-use records::what_if::sums_if_struck;
+use records::sums::PartyMonth;
 use rules::refusal::Refusal;
 use rules::rule::Rule;
 
-impl PublishedMonth {
+impl Month<Published> {
     // The journal's word is changed while the sums are taken, and put back.
     pub fn what_if<P: Rule>(
         &self,
@@ -17,21 +17,16 @@ impl PublishedMonth {
         rulebook: &P,
         place: u32,
     ) -> Result<[u64; 4], Refusal>
-        ensures does { WhatIf (P.meaning rulebook.now) (room_of 0 memory.old) place (closing self.now memory.old) result (closing self.now memory.new) }
+        ensures does { WhatIf (P.meaning rulebook.now) (room_of 0 memory.old) place (book_of self.now memory.old) result (book_of self.now memory.new) }
         ensures same { memory.new ≡ memory.old }
     {
         let place = place as usize;
-        let party = match self.month.party_at(memory, place) {
-            Ok(party) => party,
-            Err(refusal) => return Err(refusal),
-        };
-        Ok(sums_if_struck(
-            memory.words,
-            self.month.used,
-            place,
-            self.month.count,
-            &party,
+        let party = self.party_at(memory, place)?;
+        let party = PartyMonth {
+            party: &party,
+            count: self.count,
             rulebook,
-        ))
+        };
+        Ok(party.sums_if_struck(memory.words, self.used, place))
     }
 }

@@ -1,21 +1,17 @@
-use Rattle.std.proofs.Common.{◌++◌}
-use Rattle.book.proofs.Lawful.{carry, every_run_lawful}
+use Rattle.std.proofs.Common.{length}
+use Rattle.book.proofs.Lawful.{carries}
 use Rattle.book.proofs.serving.serve.Goals as goal
 
--- the call is a step, so it carries every run on; and every run is lawful
-pub returns : goal.returns
-returns g c =
-    let means = g.P.Rule.meaning c.args.rulebook.now in
-    let did = c.serve_any.ensures in
-    let more = carry means _ _ _ did.served.added did.served.steps in
-    record {
-      carries = record {
-        served = did.served;
-        carried = record {
-          run = more;
-          lawful = λ t run. every_run_lawful means (g.met.P.Rule.bounded c.args.rulebook.now) (did.served.added ++ t) _ (more t run);
-        };
-      };
-      left = did.left;
-      sheet = did.sheet;
-    }
+pub returns-in-NoBook-clause-carries : goal.returns-in-NoBook-clause-carries
+returns-in-NoBook-clause-carries g c =
+    let sheet = c.args.sheet.now in
+    rw c.in-NoBook.is (carries _ (g.met.P.Rule.bounded c.args.rulebook.now) (c.in_no_book.ensures.served _ (length sheet) sheet))
+
+pub returns-in-Open-clause-carries : goal.returns-in-Open-clause-carries
+returns-in-Open-clause-carries g c =
+    let sheet = c.args.sheet.now in
+    rw c.in-Open.is (carries _ (g.met.P.Rule.bounded c.args.rulebook.now) (c.in_open.ensures.served (length sheet) sheet))
+
+pub returns-in-Published-clause-carries : goal.returns-in-Published-clause-carries
+returns-in-Published-clause-carries g c =
+    rw c.in-Published.is (carries _ (g.met.P.Rule.bounded c.args.rulebook.now) c.in_published.ensures.served)

@@ -13,4 +13,4 @@ pub returns : goal.returns
 returns c =
     let n = min 6 (length c.args.log.now) in
     subst (λ cap. Played (λ f. or_else (table rulebook_1 f) (capped cap (answer voltage_control f))) (take n june_calls) (take n c.play.new.log) (state_of c.play.result c.play.new.memory))
-    c.in-Ok.ensures c.play.ensures.played
+    c.with_voltage.ensures c.play.ensures.played

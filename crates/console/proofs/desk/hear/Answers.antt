@@ -1,8 +1,7 @@
 use Rattle.std.proofs.Common.{length, Some, subst}
 use Rattle.settlement.specs.Lent.{room_of}
 use Rattle.book.specs.Serving.{state_of, Carries}
-use Rattle.console.specs.Calls.{call_of}
-use Rattle.console.specs.Desks.{means_of}
+use Rattle.console.specs.Choices.{means_of}
 use Rattle.console.proofs.Desks.{goes_on}
 use Rattle.console.proofs.desk.hear.Goals as goal
 
@@ -12,10 +11,9 @@ returns c =
     let stage = c.args.desk.stage in
     let command = c.in-Some.command in
     let new = c.choose-choice.result in
-    let did = c.serve_by-stage in
-    let carries : Carries (means_of new) (room_of (length c.args.sheet.now) m) (state_of stage m) (call_of command) did.result.1 did.new.sheet (state_of did.result.0 did.new.memory) =
-    subst (λ call. Carries (means_of new) (room_of (length c.args.sheet.now) m) (state_of stage m) call did.result.1 did.new.sheet (state_of did.result.0 did.new.memory))
-    c.call.ensures did.ensures.carries in
+    let did = c.serve-stage in
+    let carries = subst (λ call. Carries (means_of new) (room_of (length c.args.sheet.now) m) (state_of stage m) call did.result.1 did.new.sheet (state_of did.result.0 did.new.memory))
+    c.into.ensures did.ensures.carries in
     record {
       command = Some command;
       reads = c.in-Some.ensures;

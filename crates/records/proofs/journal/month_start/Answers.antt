@@ -1,22 +1,12 @@
-use Rattle.std.proofs.Common.{◌-◌, sym, ap, ◌∙◌, arith}
-use Rattle.std.proofs.lemmas.List.{drop_all}
-use Rattle.records.specs.Journal.{has_end}
-use Rattle.records.proofs.Months.{starts_after, starts_by, none_more}
+use Rattle.std.proofs.Common.{◌≡◌, ℕ, ◌<◌, length, get_or, MatchOption, rules}
+use Rattle.std.proofs.iter.runs.Made.{chains}
+use Rattle.records.specs.Words.{kind}
+use Rattle.records.proofs.Months.{found_last}
 use Rattle.records.proofs.journal.month_start.Goals as goal
 
-pub loop-i-init : goal.loop-i-init
-loop-i-init c = ap has_end (drop_all _ c.args.words.now (omega arith))
-
-pub returns-then-kind-eq-MONTH_END : goal.returns-then-kind-eq-MONTH_END
-returns-then-kind-eq-MONTH_END c =
-    let start = starts_after c.args.words.now (c.loop-i.i - 1) c.loop-i.i (omega arith) (omega arith) (sym c.kind.ensures ∙ c.if-kind-eq-MONTH_END.true) c.loop-i.invariant in
-    record { start = omega (arith, start); within = omega arith }
-
-pub loop-i-preserved : goal.loop-i-preserved
-loop-i-preserved c =
-    none_more c.args.words.now (c.loop-i.i - 1) c.loop-i.i (omega arith) (omega arith) (λ e. c.if-kind-eq-MONTH_END.false (c.kind.ensures ∙ e)) c.loop-i.invariant
-
-pub returns : goal.returns
-returns c =
-    let start = starts_by c.args.words.now c.loop-i.i c.loop-i.invariant in
-    record { start = omega (arith, start); within = omega arith }
+pub returns-clause-start : goal.returns-clause-start
+returns-clause-start c =
+    let ws = c.args.words.now in
+    let last : MatchOption c.rposition.result ((k : ℕ) → k < length ws → ¬ (kind (get_or ws k 0) ≡ 6))
+    (λ i. (i < length ws) × (kind (get_or ws i 0) ≡ 6) × ((k : ℕ) → i < k → k < length ws → ¬ (kind (get_or ws k 0) ≡ 6))) = search (rules, chains) in
+    found_last ws c.rposition.result c.map_or.result last (search rules)

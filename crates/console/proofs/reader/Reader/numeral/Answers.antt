@@ -1,28 +1,27 @@
-use Rattle.std.proofs.Common.{ap, arith, rules}
+use Rattle.std.proofs.Common.{◌≡◌, [], Some, sym, ap, ◌∙◌, arith}
+use Rattle.std.proofs.lemmas.List.{nil_from_length}
+use Rattle.std.proofs.lemmas.Bool.{eqb-true, eqb-false}
 use Rattle.console.specs.Format.{numeral}
-use Rattle.console.proofs.Places.{place_more, place_fits, place_all, numeral_more}
+use Rattle.console.proofs.Grammar.{numeral_reads, numeral_long, numeral_none}
+use Rattle.console.proofs.reader.Reader.numeral.Goals.{then-is_empty-via-then-is_empty, then-is_empty-via-else-is_empty+then-digits-gt-MOST_DIGITS}
 use Rattle.console.proofs.reader.Reader.numeral.Goals as goal
 
-pub overflow_mul-value : goal.overflow_mul-value
-overflow_mul-value c = omega (arith, place_fits c.loop-digit.value c.loop-digit.room (omega arith) c.loop-digit.invariant.1)
+pub returns-then-is_empty-clause-reads : goal.returns-then-is_empty-clause-reads
+returns-then-is_empty-clause-reads c =
+    let cut = c.split_digits.ensures in
+    let ds = c.split_digits.result.0.now in
+    let rest = c.split_digits.result.1.now in
+    ap (numeral 9 0) cut.whole ∙ elim c.then-is_empty.branch [
+      | then-is_empty-via-then-is_empty w ↦
+          (let none : ds ≡ [] = nil_from_length ds (eqb-true _ 0 (sym w.if-is_empty.ensures)) in rw none (numeral_none 0 rest cut.stops))
+      | then-is_empty-via-else-is_empty+then-digits-gt-MOST_DIGITS w ↦ numeral_long 9 0 ds rest cut.digits (omega (arith, w.if-digits-gt-MOST_DIGITS.true))
+    ]
 
-pub overflow_add-value : goal.overflow_add-value
-overflow_add-value c =
-    let d = c.in-Some.ensures in
-    omega (arith, place_fits c.loop-digit.value c.loop-digit.room (omega arith) c.loop-digit.invariant.1)
-
-pub loop-digit-preserved : goal.loop-digit-preserved
-loop-digit-preserved c =
-    let told = c.in-Some.ensures in
-    let here = ap (numeral c.loop-digit.room c.loop-digit.value) told.0 in
-    let more = numeral_more c.loop-digit.room c.loop-digit.value c.in-Some.digit c.digit.new.self.rest.now (omega arith) told.1 in
-    let same = c.from.ensures in
-    let was = c.loop-digit.invariant.0 in (
-      cc,
-      place_more c.loop-digit.value c.from.result c.loop-digit.room (omega arith) (omega arith) c.loop-digit.invariant.1,
-      omega arith,
-    )
-
-pub returns-else-room-eq-MOST_DIGITS : goal.returns-else-room-eq-MOST_DIGITS
-returns-else-room-eq-MOST_DIGITS c =
-    record { reads = search rules; short = place_all c.loop-digit.value c.loop-digit.room c.loop-digit.invariant.1 }
+pub returns-clause-reads : goal.returns-clause-reads
+returns-clause-reads c =
+    let cut = c.split_digits.ensures in
+    let ds = c.split_digits.result.0.now in
+    let rest = c.split_digits.result.1.now in
+    ap (numeral 9 0) cut.whole
+    ∙ numeral_reads 9 0 ds rest (omega arith) cut.digits (omega (arith, c.if-digits-gt-MOST_DIGITS.false)) (λ z _. eqb-false _ 0 (sym c.if-is_empty.ensures) z) cut.stops
+    ∙ ap (λ n. Some (n, rest)) (sym c.value.ensures.value)

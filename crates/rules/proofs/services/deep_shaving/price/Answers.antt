@@ -1,12 +1,12 @@
-use Rattle.std.proofs.Common.{sym, ◌∙◌}
+use Rattle.std.proofs.Common.{ℕ, ◌*◌, leb, rules, arith}
+use Rattle.std.proofs.lemmas.Iterator.{YieldsList-from_slice}
+use Rattle.std.proofs.lemmas.Iterator.Search.{find_from_yields_List}
+use borrow.Author.Tests.{tests}
 use Rattle.rules.specs.Services.{bands}
-use Rattle.rules.proofs.Bands.{price_here, price_later}
 use Rattle.rules.proofs.services.deep_shaving.price.Goals as goal
 
-pub returns-then-capacity-percent : goal.returns-then-capacity-percent
-returns-then-capacity-percent c =
-    price_here bands _ _ _ c.loop-percent-test.true c.if-capacity-percent.true ∙ sym c.loop-percent.invariant
-
-pub loop-percent-preserved : goal.loop-percent-preserved
-loop-percent-preserved c =
-    c.loop-percent.invariant ∙ price_later bands _ _ _ c.loop-percent-test.true c.if-capacity-percent.false
+pub returns : goal.returns
+returns c =
+    let reached = λ (band : ℕ × ℕ). leb (c.args.capacity * band.0) (c.args.output * 100) in
+    let found = find_from_yields_List reached _ _ c.find.result c.find.ensures.ran (YieldsList-from_slice bands cc) (λ x b q k. search (rules, tests)) in
+    grind arith

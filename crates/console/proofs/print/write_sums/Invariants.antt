@@ -1,7 +1,0 @@
-use Rattle.std.proofs.Common.{take}
-use Rattle.console.specs.Answers.{sums}
-use Rattle.console.specs.Pages.{Wrote}
-use Rattle.console.proofs.print.write_sums.Given as goal
-
-abbrev pub invariant-loop-n : goal.invariant-loop-n
-invariant-loop-n l = Wrote (sums (take l.n-index l.n-items)) l.initial.page l.page

@@ -1,0 +1,100 @@
+// A desk with all that is lent to it, and the memory of a book of full size for a program to own.
+ghost use Rattle.std.specs.Prelude.{◌≡◌, take, replicate, false, pos};
+ghost use Rattle.rules.specs.declared.kind.Kind.TheVariants.{Coal};
+ghost use Rattle.billing.specs.Lines.{blank, enrolment};
+ghost use Rattle.billing.specs.Lent.{lines_in};
+ghost use Rattle.console.specs.Offices.{Answers, IsNew};
+
+use crate::desk::{Desk, answer_line};
+use billing::bill::Bill;
+use billing::party::Party;
+use settlement::memory::Memory;
+use settlement::objection::Objection;
+use std::mem;
+
+const WORDS: usize = 16_384;
+
+const PARTIES: usize = 64;
+
+const OBJECTIONS: usize = 16;
+
+const PAGE: usize = 8192;
+
+#[derive(Drop)]
+pub struct Office<'a> {
+    pub desk: Desk,
+    pub memory: Memory<'a>,
+    pub sheet: &'a mut [Bill],
+    pub page: &'a mut [u8],
+}
+
+impl Office<'_> {
+    // Gives the length of the answer's text on the page.
+    pub fn answer(&mut self, line: &[u8]) -> Option<usize>
+        ensures { Answers self.old line.now result self.new }
+    {
+        let desk = mem::replace(&mut self.desk, Desk::new());
+        let (desk, long) = answer_line(desk, &mut self.memory, self.sheet, line, self.page);
+        self.desk = desk;
+        long
+    }
+
+    // The front of the page, as long as that.
+    pub fn text(&self, long: usize) -> &[u8]
+        ensures { result.now ≡ take long self.now.page.now }
+    {
+        &self.page[..long.min(self.page.len())]
+    }
+}
+
+// The journal's words, the lines of parties and objections, the sheet and the page.
+#[derive(Drop)]
+pub struct Store {
+    words: [u32; WORDS],
+    lines: [Party; PARTIES],
+    objections: [Objection; OBJECTIONS],
+    sheet: [Bill; PARTIES],
+    page: [u8; PAGE],
+}
+
+impl Store {
+    // Inlined, so that the arrays are made where they stay: they are large for a stack.
+    #[inline(always)]
+    pub fn new() -> Store
+        ensures journal { result.words ≡ replicate 16384 0 }
+        ensures lines { lines_in result.lines ≡ replicate 64 (blank (enrolment 1 Coal 1)) }
+        ensures objections { result.objections ≡ replicate 16 (record { place = 0; waiting = false }) }
+        ensures sheet { result.sheet ≡ replicate 64 (record { number = 0; charge = 0; pay = 0; first = 0; second = 0; third = 0; returned = 0; net = pos 0 }) }
+        ensures page { result.page ≡ replicate 8192 0 }
+    {
+        Store {
+            words: [0; WORDS],
+            lines: [Party::blank(); PARTIES],
+            objections: [Objection {
+                place: 0,
+                waiting: false,
+            }; OBJECTIONS],
+            sheet: [Bill::blank(); PARTIES],
+            page: [0; PAGE],
+        }
+    }
+
+    // A new desk, and all of the memory lent to it.
+    pub fn open(&mut self) -> Office<'_>
+        ensures { IsNew result }
+    {
+        let Store {
+            words,
+            lines,
+            objections,
+            sheet,
+            page,
+        } = self;
+        Office {
+            desk: Desk::new(),
+            memory: Memory::over(words, lines, objections),
+            sheet,
+            page,
+        }
+    }
+}
