@@ -5,7 +5,6 @@ use Rattle.rules.specs.Answers.{Rulebook}
 use Rattle.settlement.specs.Book.{State}
 use Rattle.book.specs.declared.answer.Reply.{Reply}
 use Rattle.book.specs.declared.answer.Denial.{Denial}
-use Rattle.rules.specs.declared.refusal.Refusal.{Refusal}
 use Rattle.book.specs.declared.call.Call.{Call}
 use Rattle.book.specs.Laws.{WithinLimits}
 use Rattle.book.specs.Playing.{Plays, Played}

@@ -5,7 +5,6 @@ use Rattle.billing.specs.declared.bill.Bill.{Bill}
 use Rattle.settlement.specs.Book.{State, no_book, Room}
 use Rattle.book.specs.declared.answer.Reply.{Reply}
 use Rattle.book.specs.declared.answer.Denial.{Denial}
-use Rattle.rules.specs.declared.refusal.Refusal.{Refusal}
 use Rattle.book.specs.declared.call.Call.{Call}
 use Rattle.book.specs.Laws.{Lawful}
 use Rattle.book.specs.Runs.{Trace, Run}

@@ -10,7 +10,6 @@ use Rattle.book.specs.declared.answer.Reply.{Reply}
 use Rattle.book.specs.declared.answer.Denial.{Denial}
 use Rattle.book.specs.declared.answer.Denial.TheVariants.{Misplaced}
 use Rattle.book.specs.declared.answer.Reply.TheVariants.{Done, Placed, Posted, Sums, Settled}
-use Rattle.rules.specs.declared.refusal.Refusal.{Refusal}
 use Rattle.book.specs.declared.stage.Stage.{Stage}
 use Rattle.book.specs.declared.stage.Stage.TheVariants.{NoBook, Open, Published}
 use Rattle.book.specs.Runs.{Entry, Trace, Step, Run}

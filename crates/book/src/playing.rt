@@ -11,8 +11,8 @@ use billing::bill::Bill;
 use rules::rule::Rule;
 use settlement::memory::Memory;
 
-// kept: memory, sheet, rulebook, calls and log are each lent by the caller
 // Serves the calls one after another, as many as the log has room for, and puts each answer into the log.
+// kept: memory, sheet, rulebook, calls and log are each lent by the caller
 pub fn play<P: Rule>(
     memory: &mut Memory,
     sheet: &mut [Bill],

@@ -4,7 +4,6 @@ use Rattle.billing.specs.declared.bill.Bill.{Bill}
 use Rattle.settlement.specs.Lent.{room_of}
 use Rattle.book.specs.declared.answer.Reply.{Reply}
 use Rattle.book.specs.declared.answer.Denial.{Denial}
-use Rattle.rules.specs.declared.refusal.Refusal.{Refusal}
 use Rattle.settlement.specs.declared.memory.Memory.{Memory}
 use Rattle.book.specs.declared.stage.Stage.{Stage}
 use Rattle.book.specs.declared.stage.Stage.TheVariants.{NoBook, Open, Published}

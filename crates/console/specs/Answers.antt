@@ -5,7 +5,6 @@ use Rattle.std.specs.Fmt.{signed_decimal}
 use Rattle.rules.specs.Answers.{place}
 use Rattle.rules.specs.Refusals.{number_of}
 use Rattle.billing.specs.declared.bill.Bill.{Bill}
-use Rattle.rules.specs.declared.refusal.Refusal.{Refusal}
 use Rattle.book.specs.declared.answer.Reply.{Reply}
 use Rattle.book.specs.declared.answer.Denial.{Denial}
 use Rattle.book.specs.Entries.{refusal_of}

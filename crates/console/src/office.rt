@@ -3,7 +3,7 @@ ghost use Rattle.std.specs.Prelude.{◌≡◌, take, replicate, false, pos};
 ghost use Rattle.rules.specs.declared.kind.Kind.TheVariants.{Coal};
 ghost use Rattle.billing.specs.Lines.{blank, enrolment};
 ghost use Rattle.billing.specs.Lent.{lines_in};
-ghost use Rattle.console.specs.Offices.{Answers, IsNew};
+ghost use Rattle.console.specs.Offices.{Answers, SameLent, IsNew, LentFrom};
 
 use crate::desk::{Desk, answer_line};
 use billing::bill::Bill;
@@ -31,7 +31,8 @@ pub struct Office<'a> {
 impl Office<'_> {
     // Gives the length of the answer's text on the page.
     pub fn answer(&mut self, line: &[u8]) -> Option<usize>
-        ensures { Answers self.old line.now result self.new }
+        ensures answers { Answers self.old line.now result self.new }
+        ensures lent { SameLent self.old self.new }
     {
         let desk = mem::replace(&mut self.desk, Desk::new());
         let (desk, long) = answer_line(desk, &mut self.memory, self.sheet, line, self.page);
@@ -81,7 +82,8 @@ impl Store {
 
     // A new desk, and all of the memory lent to it.
     pub fn open(&mut self) -> Office<'_>
-        ensures { IsNew result }
+        ensures new { IsNew result }
+        ensures lent { LentFrom self.old result }
     {
         let Store {
             words,

@@ -6,7 +6,7 @@ use Rattle.conformance.proofs.replay.judge.Goals as goal
 
 pub returns-in_err-long : goal.returns-in_err-long
 returns-in_err-long c =
-    let answering = subst (λ long. Answers c.loop-line.office c.in-Some.line.now long c.answer.new.self) c.in_err-long.was c.answer.ensures in
+    let answering = subst (λ long. Answers c.loop-line.office c.in-Some.line.now long c.answer.new.self) c.in_err-long.was c.answer.ensures.answers in
     rw c.from_residual.ensures
     (no_room _ _ _ _ c.answer.new.self c.in-Some.line.now _ _ c.loop-line.left c.loop-line.lines c.in-Some.ensures.steps c.loop-line.invariant answering)
 
@@ -18,7 +18,7 @@ overflow_add-lines c =
 
 pub loop-line-preserved : goal.loop-line-preserved
 loop-line-preserved c =
-    let answering = subst (λ long. Answers c.loop-line.office c.in-Some.line.now long c.answer.new.self) c.in_ok-long.was c.answer.ensures in
+    let answering = subst (λ long. Answers c.loop-line.office c.in-Some.line.now long c.answer.new.self) c.in_ok-long.was c.answer.ensures.answers in
     one_more _ _ _ _ c.answer.new.self c.in-Some.line.now _ _ c.loop-line.left c.loop-line.lines c.in-Some.ensures.steps c.loop-line.invariant
     c.after-left.result c.in_ok-long.long answering
     (subst (λ t. After c.loop-line.left t c.after-left.result) c.text.ensures c.after-left.ensures)
