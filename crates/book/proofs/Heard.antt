@@ -9,7 +9,7 @@ use Rattle.settlement.specs.Book.{Book, State, Room}
 use Rattle.settlement.specs.Checks.{first_of}
 use Rattle.settlement.specs.Settling.{settle_checks}
 use Rattle.book.proofs.Keeping.{clear}
-use Rattle.settlement.specs.Lent.{Beyond}
+use Rattle.settlement.specs.Lent.{Beyond, Left}
 use Rattle.settlement.specs.declared.memory.Memory.{Memory}
 use Rattle.book.specs.declared.call.Call.{Call}
 use Rattle.book.specs.declared.answer.Reply.{Reply}
@@ -17,9 +17,10 @@ use Rattle.book.specs.declared.answer.Denial.{Denial}
 use Rattle.book.specs.declared.answer.Denial.TheVariants.{Refused}
 use Rattle.book.specs.declared.answer.Reply.TheVariants.{Done, Placed, Posted, Sums, Settled}
 use Rattle.rules.specs.declared.refusal.Refusal.{Refusal}
+use Rattle.settlement.specs.declared.posted.Posted.{Posted as PostedAt}
 use Rattle.book.specs.Runs.{Entry, Step}
 use Rattle.book.specs.Entries.{call_of, answer_of, rows_of, allows, given_as}
-use Rattle.book.specs.Serving.{Served, SheetLeft}
+use Rattle.book.specs.Serving.{Served, used_in, MemoryLeft, SheetLeft}
 
 pub heard : (means : Rulebook) (room : Room) (before : State) (call : Call) (answer : Result Reply Denial) (sheet : List Bill) (after : State) (e : Entry) →
     allows before call ≡ true → call_of e ≡ call → answer_of e ≡ answer → rows_of e ≡ take (length (rows_of e)) sheet → Step means room before e after →
@@ -48,6 +49,23 @@ beyond_same used m = record {
   roster = record { lent = refl; long = refl; beyond = λ n p q. refl };
   objections = record { lent = refl; long = refl; beyond = λ n p q. refl };
 }
+
+-- what is left of the memory and of the sheet
+pub left_done : (r : Result (Unit {0}) Refusal) (after : State) (m m' : Memory) → Left r (used_in after) m m' → MemoryLeft (given_as (λ _. Done) r) after m m'
+left_done (Ok _) after m m' h = h
+left_done (Err _) after m m' h = h
+
+pub left_placed : (r : Result ℕ Refusal) (after : State) (m m' : Memory) → Left r (used_in after) m m' → MemoryLeft (given_as Placed r) after m m'
+left_placed (Ok _) after m m' h = h
+left_placed (Err _) after m m' h = h
+
+pub left_posted : (r : Result PostedAt Refusal) (after : State) (m m' : Memory) → Left r (used_in after) m m' → MemoryLeft (given_as Posted r) after m m'
+left_posted (Ok _) after m m' h = h
+left_posted (Err _) after m m' h = h
+
+pub left_sums : (r : Result (List ℕ) Refusal) (after : State) (m m' : Memory) → m' ≡ m → MemoryLeft (given_as Sums r) after m m'
+left_sums (Ok _) after m m' h = h
+left_sums (Err _) after m m' h = h
 
 pub sheet_same : (a : Result Reply Denial) (s : List Bill) → SheetLeft a s s
 sheet_same (Ok Done) s = refl

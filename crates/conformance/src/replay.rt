@@ -3,7 +3,8 @@ ghost use Rattle.std.specs.Prelude.{◌≡◌};
 ghost use Rattle.conformance.specs.Replays.{After, spent, Judged, JudgedAnew};
 
 use crate::lines::Lines;
-use console::office::{Office, Store};
+use console::new_store;
+use console::office::Office;
 
 #[derive(Drop)]
 pub(crate) struct Replayed {
@@ -48,6 +49,6 @@ fn judge(office: &mut Office, commands: &[u8], expected: &[u8]) -> Option<Replay
 pub(crate) fn replay(commands: &[u8], expected: &[u8]) -> Option<Replayed>
     ensures { JudgedAnew commands.now expected.now result }
 {
-    let mut store = Store::new();
+    let mut store = new_store!();
     judge(&mut store.open(), commands, expected)
 }

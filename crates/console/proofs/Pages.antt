@@ -24,7 +24,8 @@ front s p q h w =
     )
 
 put_more : (s t : List ℕ) (p m q : Page) → length (bytes m) ≡ length (bytes p) → Put s p m → Put t m q → Put (s ++ t) p q
-put_more s t p m q long w v = record { room = λ h. omega (arith, n, v.room (sound h), w.end, long); text = text; end = omega (arith, n, w.end, v.end) }
+put_more s t p m q long w v =
+    record { room = λ h. omega (arith, n, v.room (sound h), w.end, long); text = text; end = omega (arith, n, w.end, v.end); full = v.full ∙ w.full }
   where
     before : List ℕ
     before = bytes p
@@ -52,11 +53,22 @@ wrote_more s t {p = p} {m = m} {q = q} {r = Ok _} w v =
     record { outcome = put_more s t p m q w.long w.outcome v.outcome; sound = λ h. v.sound (w.sound h); long = v.long ∙ w.long; lent = v.lent ∙ w.lent }
 wrote_more s t {p = p} {m = m} {q = q} {r = Err _} w v =
     let first = w.outcome in
-    record { outcome = omega (arith, length-append s t, v.outcome, first.end, w.long); sound = λ h. v.sound (w.sound h); long = v.long ∙ w.long; lent = v.lent ∙ w.lent }
+    record {
+      outcome = record { reason = λ h. omega (arith, length-append s t, v.outcome.reason (first.full ∙ h), first.end, w.long); full = v.outcome.full };
+      sound = λ h. v.sound (w.sound h);
+      long = v.long ∙ w.long;
+      lent = v.lent ∙ w.lent;
+    }
 
 -- a text whose front has no room
 pub wrote_refused : (s t : List ℕ) {p q : Page} {e e' : NoRoom} → Wrote s p (Err e) q → Wrote (s ++ t) p (Err e') q
-wrote_refused s t w = record { outcome = omega (arith, length-append s t, w.outcome); sound = w.sound; long = w.long; lent = w.lent }
+wrote_refused s t w =
+    record {
+      outcome = record { reason = λ h. omega (arith, length-append s t, w.outcome.reason h); full = w.outcome.full };
+      sound = w.sound;
+      long = w.long;
+      lent = w.lent;
+    }
 
 -- no text
 pub wrote_none : (p : Page) → Wrote [] p (Ok tt) p
@@ -66,6 +78,7 @@ wrote_none p =
         room = λ h. omega (arith, h);
         text = λ h. sym (simp add-zero (take-append-drop p.used (bytes p)));
         end = omega arith;
+        full = refl;
       };
       sound = λ h. h;
       long = refl;

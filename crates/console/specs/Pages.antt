@@ -1,5 +1,5 @@
 -- What is written to a page. Assumes nothing.
-use Rattle.std.specs.Prelude.{◌≡◌, ℕ, ◌+◌, ◌<◌, ◌≤◌, List, ◌++◌, length, take, drop, Result}
+use Rattle.std.specs.Prelude.{◌≡◌, ℕ, ◌+◌, ◌<◌, ◌≤◌, true, false, List, ◌++◌, length, take, drop, Result}
 use Rattle.std.specs.Result.{MatchResult}
 use Rattle.console.specs.declared.page.Page.{Page}
 use Rattle.console.specs.declared.page.NoRoom.{NoRoom}
@@ -16,14 +16,16 @@ pub record Put (s : List ℕ) (p q : Page) : Type 0 where
   pub room : Sound p → p.used + length s ≤ length (bytes p)
   pub text : Sound p → bytes q ≡ take p.used (bytes p) ++ (s ++ drop (p.used + length s) (bytes p))
   pub end : q.used ≡ p.used + length s
+  pub full : q.full ≡ p.full
 
--- the page has no room for s
-abbrev pub NoRoomFor : List ℕ → Page → Type 0
-NoRoomFor s p = length (bytes p) < p.used + length s
+-- the page p is full, or has no room for s, and q is full
+pub record NoRoomFor (s : List ℕ) (p q : Page) : Type 0 where
+  pub reason : p.full ≡ false → length (bytes p) < p.used + length s
+  pub full : q.full ≡ true
 
--- s is written, or refused for want of room
+-- s is written, or refused
 pub record Wrote (s : List ℕ) (p : Page) (r : Result (Unit {0}) NoRoom) (q : Page) : Type 0 where
-  pub outcome : MatchResult r (λ _. Put s p q) (λ _. NoRoomFor s p)
+  pub outcome : MatchResult r (λ _. Put s p q) (λ _. NoRoomFor s p q)
   pub sound : Sound p → Sound q
   pub long : length (bytes q) ≡ length (bytes p)
   pub lent : q.bytes.ghost_name ≡ p.bytes.ghost_name

@@ -1,5 +1,5 @@
 // The bytes of a line as they come in.
-ghost use Rattle.std.specs.Prelude.{◌≡◌, [], ◌∷◌, ◌++◌, take};
+ghost use Rattle.std.specs.Prelude.{◌≡◌, ◌≤◌, [], ◌∷◌, ◌++◌, length, take};
 
 use arrayvec::ArrayVec;
 use std::marker::Model;
@@ -31,7 +31,8 @@ impl Line {
     }
 
     pub fn bytes(&self) -> &[u8]
-        ensures { result.now ≡ self.now }
+        ensures bytes { result.now ≡ self.now }
+        ensures few { length result.now ≤ 65 }
     {
         self.bytes.as_slice()
     }

@@ -12,13 +12,13 @@ use settlement::memory::Memory;
 use settlement::objection::Objection;
 use std::mem;
 
-const WORDS: usize = 16_384;
+pub const WORDS: usize = 16_384;
 
-const PARTIES: usize = 64;
+pub const PARTIES: usize = 64;
 
-const OBJECTIONS: usize = 16;
+pub const OBJECTIONS: usize = 16;
 
-const PAGE: usize = 8192;
+pub const PAGE: usize = 8192;
 
 #[derive(Drop)]
 pub struct Office<'a> {
@@ -51,16 +51,31 @@ impl Office<'_> {
 // The journal's words, the lines of parties and objections, the sheet and the page.
 #[derive(Drop)]
 pub struct Store {
-    words: [u32; WORDS],
-    lines: [Party; PARTIES],
-    objections: [Objection; OBJECTIONS],
-    sheet: [Bill; PARTIES],
-    page: [u8; PAGE],
+    pub words: [u32; WORDS],
+    pub lines: [Party; PARTIES],
+    pub objections: [Objection; OBJECTIONS],
+    pub sheet: [Bill; PARTIES],
+    pub page: [u8; PAGE],
+}
+
+// The store that `Store::new` gives, made where it stays: what a function hands back is made twice, and this is large for a stack.
+#[macro_export]
+macro_rules! new_store {
+    () => {
+        $crate::office::Store {
+            words: [0; $crate::office::WORDS],
+            lines: [billing::party::Party::blank(); $crate::office::PARTIES],
+            objections: [settlement::objection::Objection {
+                place: 0,
+                waiting: false,
+            }; $crate::office::OBJECTIONS],
+            sheet: [billing::bill::Bill::blank(); $crate::office::PARTIES],
+            page: [0; $crate::office::PAGE],
+        }
+    };
 }
 
 impl Store {
-    // Inlined, so that the arrays are made where they stay: they are large for a stack.
-    #[inline(always)]
     pub fn new() -> Store
         ensures journal { result.words ≡ replicate 16384 0 }
         ensures lines { lines_in result.lines ≡ replicate 64 (blank (enrolment 1 Coal 1)) }
@@ -68,16 +83,7 @@ impl Store {
         ensures sheet { result.sheet ≡ replicate 64 (record { number = 0; charge = 0; pay = 0; first = 0; second = 0; third = 0; returned = 0; net = pos 0 }) }
         ensures page { result.page ≡ replicate 8192 0 }
     {
-        Store {
-            words: [0; WORDS],
-            lines: [Party::blank(); PARTIES],
-            objections: [Objection {
-                place: 0,
-                waiting: false,
-            }; OBJECTIONS],
-            sheet: [Bill::blank(); PARTIES],
-            page: [0; PAGE],
-        }
+        new_store!()
     }
 
     // A new desk, and all of the memory lent to it.

@@ -105,7 +105,11 @@ fn write_answer(page: &mut Page, answer: &Answer, sheet: &[Bill]) -> Result<(), 
 pub fn print(answer: &Answer, sheet: &[Bill], bytes: &mut [u8]) -> Option<usize>
     ensures { Printed (text answer.now sheet.now) bytes.old result bytes.new }
 {
-    let mut page = Page { bytes, used: 0 };
+    let mut page = Page {
+        bytes,
+        used: 0,
+        full: false,
+    };
     write_answer(&mut page, answer, sheet).ok()?;
     Some(page.used)
 }

@@ -2,7 +2,8 @@
 #![tactic(auto)]
 
 use console::line::Line;
-use console::office::{Office, Store};
+use console::new_store;
+use console::office::Office;
 use std::io;
 use std::io::{BufWriter, Read, Write};
 
@@ -18,7 +19,7 @@ fn serve<W: Write>(office: &mut Office, line: &[u8], output: &mut W) -> io::Resu
 }
 
 fn main(rt: HostRuntime) -> io::Result<()> {
-    let mut store = Store::new();
+    let mut store = new_store!();
     let mut office = store.open();
     let mut chunk = [0; CHUNK];
     let mut input = rt.stdin();

@@ -3,7 +3,8 @@ use Rattle.std.proofs.Common.{◌≡◌, ℕ, zero, suc, ◌+◌, ◌<◌, ◌�
 use Rattle.std.proofs.lemmas.List.{drop_more, get_or-drop, length-drop}
 use Rattle.std.proofs.lemmas.Bool.{cond-true, cond-false, eq-eqb, ne_eqb, or_left, or_right, or_from}
 use Rattle.records.specs.Words.{kind}
-use Rattle.records.specs.Journal.{has_end, month_start}
+use Rattle.records.specs.Journal.{has_end, month_start, posted}
+use Rattle.records.specs.declared.event.Event.{Event}
 
 -- a word that ends a month
 ends_at : (ws : List ℕ) (i : ℕ) → i < length ws → kind (get_or ws i 0) ≡ 6 → has_end ws ≡ true
@@ -57,3 +58,16 @@ module _ (ws : List ℕ) (i n : ℕ) (next : i + 1 ≡ n) (within : i < length w
   -- it ends none
   pub none_more : (kind (get_or ws i 0) ≡ 6 → ⊥) → has_end (drop n ws) ≡ false → has_end (drop i ws) ≡ false
   none_more k e = ap has_end (drop_more ws i 0 within) ∙ (ap (λ b. b || has_end (drop (i + 1) ws)) (ne_eqb _ 6 k) ∙ (ap (λ m. has_end (drop m ws)) next ∙ e))
+
+posted_all : (e : Event) (ws : List ℕ) (i : ℕ) → posted e (drop i ws) ≡ true → posted e ws ≡ true
+posted_all e [] zero p = p
+posted_all e [] (suc i) p = p
+posted_all e (w ∷ ws) zero p = p
+posted_all e (w ∷ ws) (suc i) p = or_right _ _ (posted_all e ws i p)
+
+-- what was posted among some words was posted among more
+pub posted_more : (e : Event) (ws : List ℕ) (s i : ℕ) → s ≤ i → posted e (drop i ws) ≡ true → posted e (drop s ws) ≡ true
+posted_more e ws zero i h p = posted_all e ws i p
+posted_more e ws (suc s) zero h p = absurd (omega arith)
+posted_more e [] (suc s) (suc i) h p = p
+posted_more e (w ∷ ws) (suc s) (suc i) h p = posted_more e ws s i (omega arith) p

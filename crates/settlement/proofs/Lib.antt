@@ -1,3 +1,4 @@
 pub mod Finds
 pub mod Postings
 pub mod Renewals
+pub mod Readings

@@ -109,6 +109,14 @@ first_then (c ∷ cs) ds h = go c.1 (λ u. first_then cs ds u) h
     go true ih u = absurd (let z : ◌≡◌ {A = ℕ} 0 1 = cc in omega arith)
     go false ih u = ih u
 
+pub first_stops : (cs ds : List Check) (x : Refusal) → first_of cs ≡ Some x → first_of (cs ++ ds) ≡ Some x
+first_stops [] ds x h = absurd (let z : ◌≡◌ {A = ℕ} 0 1 = cc in omega arith)
+first_stops (c ∷ cs) ds x h = go c.1 (λ u. first_stops cs ds x u) h
+  where
+    go : (t : Bool) → (first_of cs ≡ Some x → first_of (cs ++ ds) ≡ Some x) → cond t (Some c.0) (first_of cs) ≡ Some x → cond t (Some c.0) (first_of (cs ++ ds)) ≡ Some x
+    go true ih u = u
+    go false ih u = ih u
+
 pub last_clear : (cs : List Check) (x : Refusal) (t : Bool) → first_of cs ≡ None → t ≡ false → first_of (cs ++ ((x, t) ∷ [])) ≡ None
 last_clear cs x t h e = first_then cs ((x, t) ∷ []) h ∙ ap (λ u. cond u (Some x) None) e
 
