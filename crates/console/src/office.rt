@@ -59,6 +59,7 @@ pub struct Store {
 }
 
 // The store that `Store::new` gives, made where it stays: what a function hands back is made twice, and this is large for a stack.
+// A crate that calls it lists `billing` and `settlement` too.
 #[macro_export]
 macro_rules! new_store {
     () => {

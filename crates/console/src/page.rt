@@ -11,7 +11,7 @@ use itoa::Buffer;
 pub struct Page<'a> {
     pub bytes: &'a mut [u8],
     pub used: usize,
-    // kept: what was refused is remembered, so that no shorter text after it makes a whole of a part
+    // kept: a yes or no of its own: where a text was refused, a shorter one that follows it has no place either
     pub full: bool,
 }
 
@@ -48,6 +48,7 @@ impl Page<'_> {
         ensures wrote { Wrote (decimal n) self.old result self.new }
         ensures full { self.old.full ≡ true → is_ok result ≡ false }
     {
+        // kept: most figures of an answer are 0, and one digit is dear by the library's buffer
         if n < 10 {
             return self.byte(b'0' + n as u8);
         }
