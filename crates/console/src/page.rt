@@ -48,7 +48,7 @@ impl Page<'_> {
         ensures wrote { Wrote (decimal n) self.old result self.new }
         ensures full { self.old.full ≡ true → is_ok result ≡ false }
     {
-        // kept: most figures of an answer are 0, and one digit is dear by the library's buffer
+        // kept: one digit is dear by the library's buffer, and many figures of an answer are 0
         if n < 10 {
             return self.byte(b'0' + n as u8);
         }
