@@ -18,14 +18,18 @@ pub record Put (s : List ℕ) (p q : Page) : Type 0 where
   pub end : q.used ≡ p.used + length s
   pub full : q.full ≡ p.full
 
+-- the page has no room for s
+abbrev pub NoRoomFor : List ℕ → Page → Type 0
+NoRoomFor s p = length (bytes p) < p.used + length s
+
 -- the page p is full, or has no room for s, and q is full
-pub record NoRoomFor (s : List ℕ) (p q : Page) : Type 0 where
-  pub reason : p.full ≡ false → length (bytes p) < p.used + length s
+pub record LeftFull (s : List ℕ) (p q : Page) : Type 0 where
+  pub reason : p.full ≡ false → NoRoomFor s p
   pub full : q.full ≡ true
 
 -- s is written, or refused
 pub record Wrote (s : List ℕ) (p : Page) (r : Result (Unit {0}) NoRoom) (q : Page) : Type 0 where
-  pub outcome : MatchResult r (λ _. Put s p q) (λ _. NoRoomFor s p q)
+  pub outcome : MatchResult r (λ _. Put s p q) (λ _. LeftFull s p q)
   pub sound : Sound p → Sound q
   pub long : length (bytes q) ≡ length (bytes p)
   pub lent : q.bytes.ghost_name ≡ p.bytes.ghost_name
